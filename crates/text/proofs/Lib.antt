@@ -1,0 +1,5 @@
+pub mod Bools
+pub mod Numbers
+pub mod Texts
+pub mod Entries
+pub mod Runs

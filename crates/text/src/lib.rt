@@ -1,0 +1,32 @@
+//! Parts of a plan's text, names of any kind, directories of names, and decimal numbers.
+mod badge;
+mod byte;
+mod decimal;
+mod directory;
+mod kind;
+mod part;
+mod word;
+
+pub use badge::Badge;
+pub use badge::BadgeKind;
+pub use byte::is_digit;
+pub use byte::is_letter;
+pub use byte::is_name_byte;
+pub use decimal::bay;
+pub use decimal::correction;
+pub use decimal::decimals_agree;
+pub use decimal::number;
+pub use decimal::write_number;
+pub use directory::Entry;
+pub use directory::add;
+pub use directory::find;
+pub use directory::gather;
+pub use kind::Kind;
+pub use part::Part;
+pub use part::Sign;
+pub use part::SignPartialEq;
+pub use part::part_at;
+pub use part::parts;
+pub use part::sign_of;
+pub use word::Word;
+pub use word::WordKind;
