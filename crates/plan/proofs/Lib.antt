@@ -25,3 +25,11 @@ pub mod Working
 pub mod Shuffling
 pub mod Nesting
 pub mod Marking
+pub mod MachineRuns
+pub mod MachineBridge
+pub mod MachineSteps
+pub mod MachineCounts
+pub mod MachineFronts
+pub mod FormAgrees
+pub mod FormDecided
+pub mod FormWorked

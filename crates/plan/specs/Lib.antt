@@ -16,3 +16,9 @@ pub mod Tree
 pub mod Written
 pub mod Rows
 pub mod Refusals
+pub mod Form
+pub mod Machine
+pub mod Faults
+pub mod Readings
+pub mod Agreements
+pub mod FormExamples

@@ -1,5 +1,6 @@
 //! Plans: what they mean, and how they are held.
 mod cut_laws;
+mod form_laws;
 mod leaf;
 mod moves;
 mod refusal;
@@ -18,6 +19,13 @@ pub use cut_laws::plans_are_walked;
 pub use cut_laws::walks_read_beginnings;
 pub use cut_laws::walks_read_permitted;
 pub use cut_laws::widest_is_attained;
+pub use form_laws::always_decided;
+pub use form_laws::answers_worked;
+pub use form_laws::beginnings_live;
+pub use form_laws::firsts_agree;
+pub use form_laws::forms_are_accepted;
+pub use form_laws::refusals_agree;
+pub use form_laws::takings_agree;
 pub use leaf::Leaf;
 pub use leaf::Marks;
 pub use moves::RowMove;
