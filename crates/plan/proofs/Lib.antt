@@ -33,3 +33,11 @@ pub mod MachineFronts
 pub mod FormAgrees
 pub mod FormDecided
 pub mod FormWorked
+pub mod Writing
+pub mod WritingMarks
+pub mod WritingTrees
+pub mod WritingNames
+pub mod WritingTexts
+pub mod WritingBytes
+pub mod WritingOnce
+pub mod WritingLeaves

@@ -22,3 +22,5 @@ pub mod Faults
 pub mod Readings
 pub mod Agreements
 pub mod FormExamples
+pub mod Writes
+pub mod WrittenLaws

@@ -6,6 +6,8 @@ mod moves;
 mod refusal;
 mod strand_laws;
 mod tree;
+mod writer;
+mod writing_laws;
 
 pub use cut_laws::cuts_are_formed;
 pub use cut_laws::cuts_are_listed;
@@ -61,3 +63,8 @@ pub use tree::LinkPartialEq;
 pub use tree::Sort;
 pub use tree::SortPartialEq;
 pub use tree::Tree;
+pub use writing_laws::leaves_have_one_reading;
+pub use writing_laws::lengths_are_bounded;
+pub use writing_laws::texts_have_one_reading;
+pub use writing_laws::texts_of_leaves_decide;
+pub use writing_laws::texts_of_names_decide;
