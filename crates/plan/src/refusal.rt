@@ -1,4 +1,5 @@
 ghost use mathlib.Core.Path.{_≡_};
+ghost use Rattle.plan.specs.Refusals.{code};
 ghost use Rattle.plan.specs.declared.refusal.PlanError.the-variants.{Memory};
 use std::alloc::AllocError;
 use std::alloc::Refused;
@@ -26,6 +27,26 @@ pub enum Refusal {
     Cuts,
     /// The name of this number stands earlier among the plan's names.
     Twice(usize),
+}
+
+impl Refusal {
+    /// Its number, and the place, length, width or name number that goes with it.
+    pub fn number_and_place(self) -> (u8, usize)
+        ensures { λ r. ⌜ r ≡ code self ⌝ }
+    {
+        match self {
+            Refusal::Short(length) => (9, length),
+            Refusal::Length => (1, 0),
+            Refusal::Form(place) => (2, place),
+            Refusal::NoName(place) => (3, place),
+            Refusal::Mark(place) => (4, place),
+            Refusal::Depth(place) => (5, place),
+            Refusal::Many(place) => (6, place),
+            Refusal::Width(width) => (7, width),
+            Refusal::Cuts => (8, 0),
+            Refusal::Twice(number) => (13, number),
+        }
+    }
 }
 
 /// What reading a plan may end with instead of a plan.
