@@ -41,3 +41,4 @@ pub mod WritingTexts
 pub mod WritingBytes
 pub mod WritingOnce
 pub mod WritingLeaves
+pub mod Outlining

@@ -24,3 +24,4 @@ pub mod Agreements
 pub mod FormExamples
 pub mod Writes
 pub mod WrittenLaws
+pub mod Outlines
