@@ -25,3 +25,10 @@ pub mod FormExamples
 pub mod Writes
 pub mod WrittenLaws
 pub mod Outlines
+pub mod Sizes
+pub mod Branches
+pub mod Drafts
+pub mod Reading
+pub mod Judged
+pub mod Parses
+pub mod Entering

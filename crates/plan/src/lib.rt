@@ -1,9 +1,19 @@
 //! Plans: what they mean, and how they are held.
+mod branch;
+mod counts;
 mod cut_laws;
+mod draft;
+mod entering;
 mod form_laws;
+mod judge;
 mod leaf;
+mod look;
+mod marks;
 mod moves;
+mod names;
 mod outline;
+mod parsing;
+mod reader;
 mod refusal;
 mod strand_laws;
 mod tree;
@@ -36,6 +46,8 @@ pub use outline::Item;
 pub use outline::Line;
 pub use outline::outlined;
 pub use outline::outlines_are_whole;
+pub use parsing::Parsed;
+pub use parsing::parse;
 pub use refusal::PlanError;
 pub use refusal::PlanErrorFromAlloc;
 pub use refusal::PlanErrorFromRefused;
