@@ -21,7 +21,9 @@ use Rattle.plan.specs.Tree.{shape-of}
 use Rattle.plan.specs.Drafts.{draft-text, is-named, Named-at, Placed, kinds, spelled}
 use Rattle.plan.specs.Entering.{Has-name, All-named, Below, Matches, Entered, name-runs}
 use Rattle.plan.specs.Faults.{Refuses}
-use Rattle.plan.specs.Parses.{Granted, Judges, Refused-for, Sized-well, Accepts, leaf-named, All-below, Reads-plan}
+use Rattle.plan.specs.Readings.{Unrefused}
+use Rattle.plan.proofs.FormAgrees.{firsts-agree, takings-agree}
+use Rattle.plan.specs.Parses.{Nothing, Granted, Judges, Refused-for, Sized-well, Accepts, leaf-named, All-below, Reads-plan}
 use Rattle.plan.specs.declared.branch.Branch.{Branch}
 use Rattle.plan.specs.declared.draft.Draft.{Draft}
 use Rattle.plan.specs.declared.leaf.Leaf.{Leaf}
@@ -34,11 +36,15 @@ use Rattle.plan.proofs.ReadingTrees.{kinds-length}
 use Rattle.plan.proofs.ReadingJudged.{read-spells, leaves-read}
 
 -- what is granted is within the limits
+-- what the machine takes, the grammar takes
+unrefused : (has : List ℕ → Bool) (t : List ℕ) → Nothing has t → Unrefused has t
+unrefused has t h = takings-agree has t .0 (h .accepted, h .none)
+
 pub granted-accepts : {has : List ℕ → Bool} {t : List ℕ} {ds : List Draft} {b : Branch} (n : ℕ) (e : Shape) (g : Granted has t ds b) → Sized-well n t → e ≡ g .whole .drawn .shape → Accepts has n t e ds
 granted-accepts {has} {t} {ds} n e g s q =
     subst (λ x. Accepts has n t x ds) (sym q) (record {
       room = s;
-      nothing = g .nothing;
+      nothing = unrefused has t (g .nothing);
       spells = read-spells (g .whole);
       limits =
           let d = g .whole .drawn in
@@ -138,11 +144,11 @@ reads-plan text has t before after ds b p i s g q l m h =
 pub judged-refused : (has : List ℕ → Bool) (n : ℕ) (t : List ℕ) (f : Refusal) → Sized-well n t → Judges has t f → Refused-for has n t f
 judged-refused has n t (Short k) s h = absurd h
 judged-refused has n t Length s h = absurd h
-judged-refused has n t (Form p) s h = (s, h)
-judged-refused has n t (NoName p) s h = (s, h)
-judged-refused has n t (Mark p) s h = (s, h)
-judged-refused has n t (Depth p) s h = (s, h)
-judged-refused has n t (Many p) s h = (s, h)
-judged-refused has n t (Width w) s h = (s, h)
-judged-refused has n t Cuts s h = (s, h)
+judged-refused has n t (Form p) s h = (s, firsts-agree has t (Form p) .0 h)
+judged-refused has n t (NoName p) s h = (s, firsts-agree has t (NoName p) .0 h)
+judged-refused has n t (Mark p) s h = (s, firsts-agree has t (Mark p) .0 h)
+judged-refused has n t (Depth p) s h = (s, firsts-agree has t (Depth p) .0 h)
+judged-refused has n t (Many p) s h = (s, firsts-agree has t (Many p) .0 h)
+judged-refused has n t (Width w) s h = let x = h .1 in (s, (x .0, (unrefused has t (h .0), (x .1, x .2)), x .3, x .4))
+judged-refused has n t Cuts s h = let x = h .1 in (s, (x .0, (unrefused has t (h .0), (x .1, x .2)), x .3, x .4))
 judged-refused has n t (Twice k) s h = h

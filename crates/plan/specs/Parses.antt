@@ -10,6 +10,7 @@ use Rattle.plan.specs.Counts.{free-cuts, locked-cuts, width}
 use Rattle.plan.specs.Limits.{well-formed, within-limits}
 use Rattle.plan.specs.Machine.{fresh, live, run, accepts}
 use Rattle.plan.specs.Faults.{Refuses, First}
+use Rattle.plan.specs.Readings.{First-refused, Unrefused}
 use Rattle.plan.specs.Drafts.{draft-text, is-named, named-to, Placed, kinds, spelled}
 use Rattle.plan.specs.Entering.{Below, name-runs}
 use Rattle.plan.specs.Tree.{shape-of}
@@ -35,12 +36,12 @@ pub record Spells (t : List ℕ) (e : Shape) (ds : List Draft) : Type 0 where
   pub placed : Placed t ds
   pub formed : well-formed e ≡ true
 
--- of the refusals 2 to 6 there is none, where `has` says which texts have a name
+-- as the machine sees it: of the refusals 2 to 6 there is none, where `has` says which texts have a name
 pub record Nothing (has : List ℕ → Bool) (t : List ℕ) : Type 0 where
   pub accepted : accepts (run (live [] fresh) t) ≡ true
   pub none : (f : Refusal) → Refuses has t f → ⊥
 
--- the refusal of a text of 1 to 2,048 bytes: the first of 2 to 6; and where there is none, 7 and then 8
+-- as the machine sees it: the refusal of a text of 1 to 2,048 bytes: the first of 2 to 6; and where there is none, 7 and then 8
 abbrev pub Judges : (List ℕ → Bool) → List ℕ → Refusal → Type 0
 Judges has t (Short n) = ⊥
 Judges has t Length = ⊥
@@ -74,23 +75,28 @@ abbrev pub All-below : ℕ → List Leaf → Type 0
 All-below n [] = Unit {0}
 All-below n (l ∷ ls) = Below n (l .name) × All-below n ls
 
--- the refusals of a text, where a names buffer has so many entries: 9, then 1, then 2 to 8
+-- the text is that of a plan, refused for none of 2 to 6, whose shape is e
+abbrev pub Spelled : (List ℕ → Bool) → List ℕ → Shape → Type 0
+Spelled has t e = Unrefused has t × ((ds : List Draft) × Spells t e ds)
+
+-- the refusals of a text, where a names buffer has so many entries: 9, then 1, then the first of 2 to 6 in the grammar's
+-- terms, then 7, then 8
 abbrev pub Refused-for : (List ℕ → Bool) → ℕ → List ℕ → Refusal → Type 0
 Refused-for has n t (Short k) = (n < 128) × (k ≡ 128)
 Refused-for has n t Length = (128 ≤ n) × ((length t ≡ 0) ⊎ (2048 < length t))
-Refused-for has n t (Form p) = Sized-well n t × Judges has t (Form p)
-Refused-for has n t (NoName p) = Sized-well n t × Judges has t (NoName p)
-Refused-for has n t (Mark p) = Sized-well n t × Judges has t (Mark p)
-Refused-for has n t (Depth p) = Sized-well n t × Judges has t (Depth p)
-Refused-for has n t (Many p) = Sized-well n t × Judges has t (Many p)
-Refused-for has n t (Width w) = Sized-well n t × Judges has t (Width w)
-Refused-for has n t Cuts = Sized-well n t × Judges has t Cuts
+Refused-for has n t (Form p) = Sized-well n t × First-refused has t (Form p)
+Refused-for has n t (NoName p) = Sized-well n t × First-refused has t (NoName p)
+Refused-for has n t (Mark p) = Sized-well n t × First-refused has t (Mark p)
+Refused-for has n t (Depth p) = Sized-well n t × First-refused has t (Depth p)
+Refused-for has n t (Many p) = Sized-well n t × First-refused has t (Many p)
+Refused-for has n t (Width w) = Sized-well n t × ((e : Shape) × Spelled has t e × (w ≡ width e) × (8 < w))
+Refused-for has n t Cuts = Sized-well n t × ((e : Shape) × Spelled has t e × (width e ≤ 8) × (4096 < free-cuts e + locked-cuts e))
 Refused-for has n t (Twice k) = ⊥
 
 -- nothing is refused: the text is that of a plan within the limits
 pub record Accepts (has : List ℕ → Bool) (n : ℕ) (t : List ℕ) (e : Shape) (ds : List Draft) : Type 0 where
   pub room : Sized-well n t
-  pub nothing : Nothing has t
+  pub nothing : Unrefused has t
   pub spells : Spells t e ds
   pub limits : within-limits e ≡ true
 
