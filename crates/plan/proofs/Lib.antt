@@ -25,3 +25,16 @@ pub mod Working
 pub mod Shuffling
 pub mod Nesting
 pub mod Marking
+pub mod LayingPairwise
+pub mod LayingRows
+pub mod Moving
+pub mod LayingEnds
+pub mod LayingOut
+pub mod MovingFew
+pub mod LayingLoops
+pub mod LayingParts
+pub mod LayingPairs
+pub mod LayingFacts
+pub mod LayingTree
+pub mod PlanFacts
+pub mod LayingBuffer

@@ -15,4 +15,10 @@ pub mod Mistakes
 pub mod Tree
 pub mod Written
 pub mod Rows
+pub mod Places
+pub mod CutOrder
+pub mod MoveList
 pub mod Refusals
+pub mod Spots
+pub mod PartSpecs
+pub mod LeafFit

@@ -1,8 +1,16 @@
 //! Plans: what they mean, and how they are held.
 mod cut_laws;
+mod laid;
+mod layout;
+mod layout_laws;
 mod leaf;
 mod moves;
+mod pairs;
+mod parts;
+mod plan;
 mod refusal;
+mod rows;
+mod spot;
 mod strand_laws;
 mod tree;
 
@@ -18,9 +26,12 @@ pub use cut_laws::plans_are_walked;
 pub use cut_laws::walks_read_beginnings;
 pub use cut_laws::walks_read_permitted;
 pub use cut_laws::widest_is_attained;
+pub use layout_laws::few_moves_leave;
+pub use layout_laws::plans_are_laid;
 pub use leaf::Leaf;
 pub use leaf::Marks;
 pub use moves::RowMove;
+pub use plan::Plan;
 pub use refusal::PlanError;
 pub use refusal::PlanErrorFromAlloc;
 pub use refusal::PlanErrorFromRefused;
