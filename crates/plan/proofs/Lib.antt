@@ -59,3 +59,16 @@ pub mod ReadingMoves
 pub mod ReadingMarks
 pub mod ReadingParts
 pub mod Counting
+pub mod LayingPairwise
+pub mod LayingRows
+pub mod Moving
+pub mod LayingEnds
+pub mod LayingOut
+pub mod MovingFew
+pub mod LayingLoops
+pub mod LayingParts
+pub mod LayingPairs
+pub mod LayingFacts
+pub mod LayingTree
+pub mod PlanFacts
+pub mod LayingBuffer

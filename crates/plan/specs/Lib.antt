@@ -15,6 +15,9 @@ pub mod Mistakes
 pub mod Tree
 pub mod Written
 pub mod Rows
+pub mod Places
+pub mod CutOrder
+pub mod MoveList
 pub mod Refusals
 pub mod Form
 pub mod Machine
@@ -32,3 +35,6 @@ pub mod Reading
 pub mod Judged
 pub mod Parses
 pub mod Entering
+pub mod Spots
+pub mod PartSpecs
+pub mod LeafFit
