@@ -27,7 +27,7 @@ use Rattle.plan.specs.Parses.{Nothing, Granted, Judges, Refused-for, Sized-wel
 use Rattle.plan.specs.declared.branch.Branch.{Branch}
 use Rattle.plan.specs.declared.draft.Draft.{Draft}
 use Rattle.plan.specs.declared.leaf.Leaf.{Leaf}
-use Rattle.plan.specs.declared.parsing.Parsed.{Parsed}
+use Rattle.plan.specs.declared.parsed.Parsed.{Parsed}
 use Rattle.plan.specs.declared.refusal.Refusal.{Refusal}
 use Rattle.plan.specs.declared.refusal.Refusal.the-variants.{Short, Length, Form, NoName, Mark, Depth, Many, Width, Cuts, Twice}
 use Rattle.plan.proofs.Limited.{limits-pass, tested-formed}
@@ -137,6 +137,7 @@ reads-plan text has t before after ds b p i s g q l m h =
       kind = kind;
       below = matched-below texts t ds ls (p .names) (omega (arith, length-map (take (p .names) after) text, length-take (p .names) after)) done;
       texts = h .texts ∙ ap (λ z. directory (name-runs t z)) all;
+      fits = omega (arith, h .fits, m);
       behind = h .behind;
     }
 

@@ -20,7 +20,7 @@ use Rattle.std.specs.Of.Vec.{vec-items}
 use Rattle.std.specs.declared.result.Result.{Result}
 use Rattle.std.specs.declared.result.Result.the-variants.{Ok, Err}
 use Rattle.plan.specs.declared.leaf.Leaf.{Leaf}
-use Rattle.plan.specs.declared.parsing.Parsed.{Parsed}
+use Rattle.plan.specs.declared.parsed.Parsed.{Parsed}
 use Rattle.plan.specs.declared.refusal.PlanError.{PlanError}
 use Rattle.plan.specs.declared.refusal.PlanError.the-variants.{Refused, Memory}
 use Rattle.plan.specs.Judged.{Read-whole}
@@ -110,7 +110,8 @@ pub record Reads-plan {K : Type 0} (text : K → List ℕ) (has : List ℕ → B
   pub number : leaves (shape-of (p .tree)) ≡ length (vec-items (p .leaves))
   pub kind : kinds (shape-of (p .tree)) ≡ map leaf-named (vec-items (p .leaves))
   pub below : All-below (p .names) (vec-items (p .leaves))
-  -- the names are distinct, in the order in which they come first, and the entries behind them stay
+  -- the names are distinct, in the order in which they come first, no more than leaves, and the entries behind them stay
+  pub fits : p .names ≤ length (vec-items (p .leaves))
   pub texts : map text (take (p .names) after) ≡ directory (name-runs t drafts)
   pub behind : drop (p .names) after ≡ drop (p .names) before
 

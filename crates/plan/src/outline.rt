@@ -1,3 +1,4 @@
+use super::parsed::Parsed;
 use super::tree::Sort;
 use super::tree::Tree;
 use std::alloc::AllocError;
@@ -72,15 +73,15 @@ impl Tree {
     }
 }
 
-/// The items of a plan in the order of their numbers.
-pub fn outlined(heap: Global, tree: &Tree) -> Result<Vec<Line>, AllocError>
-    requires few { ⌜ leaf-count (shape-of (now tree)) < 2 ^ 32 ⌝ }
-    requires shallow { ⌜ nesting (shape-of (now tree)) < 2 ^ 32 ⌝ }
-    ensures { λ r. ⌜ made r (λ v. vec-items v ≡ outline-of (shape-of (now (tree .entry)))) ⌝ }
-{
-    let mut lines = Vec::new(heap);
-    tree.list_items(0, 0, &mut lines)?;
-    Ok(lines)
+impl Parsed {
+    /// The items of the plan in the order of their numbers.
+    pub fn outline(&self, heap: Global) -> Result<Vec<Line>, AllocError>
+        ensures { λ r. ⌜ made r (λ v. vec-items v ≡ outline-of (shape-of (now (self .entry) .tree))) ⌝ }
+    {
+        let mut lines = Vec::new(heap);
+        self.tree.list_items(0, 0, &mut lines)?;
+        Ok(lines)
+    }
 }
 
 /// An outline has a line for each item.

@@ -1,22 +1,13 @@
 use super::entering::blank_leaves;
 use super::entering::enter_all;
 use super::judge::judge;
-use super::leaf::Leaf;
+use super::parsed::Parsed;
 use super::reader::Reader;
 use super::refusal::PlanError;
 use super::refusal::Refusal;
-use super::tree::Tree;
 use std::alloc::Global;
 use text::Kind;
 ghost use Rattle.plan.specs.Parses.{Parse-answer};
-
-/// What reading a text answers: the plan's tree, its leaves as they appear, and how many distinct names it has.
-#[derive(Drop)]
-pub struct Parsed {
-    pub tree: Tree,
-    pub leaves: Vec<Leaf>,
-    pub names: usize,
-}
 
 /// Reads a plan's text. The distinct names are written to the front of the buffer, in the order in which they come first.
 pub fn parse<K: Kind>(heap: Global, text: &[u8], names: &mut [K]) -> Result<Parsed, PlanError>

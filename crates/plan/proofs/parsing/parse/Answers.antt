@@ -54,3 +54,11 @@ returns g c =
     let long : length (drafts-of r) ≤ r .leaves = omega (arith, length-take (r .leaves) (r .drafts)) in
     reads-plan (g .K·Kind .text) (g .K·Kind .has) (c .args .text .now) (c .args .names .now) (c .enter-all-count .last .names) (drafts-of r) (c .in-Ok .plan) _ (r .leaves) s y
     (ap shape-of (c .in-Some .tree-is) ∙ shaped) long (c .enter-all-count .ensures .long) h
+
+pub ghost-result : need.ghost-result
+ghost-result g c =
+    let some = c .if-text-eq0 .left in
+    let s : Sized-well (length (c .args .names .now)) (c .args .text .now) = record { room = c .if-names-lt128 .left; some = omega arith; short = c .if-text-gt2048 .left } in
+    let y = subst (λ t. Granted (g .K·Kind .has) t (drafts-of (c .judge .last .reader)) (c .in-Ok .plan)) (c .new-reader .ensures .text) (c .in-Ok .ensures tt .judged) in
+    let shaped = subst (Of-shape (y .whole .drawn .shape)) (c .in-Some .is) (y .whole .drawn .meant .tree) in
+    (granted-accepts (length (c .args .names .now)) _ y s (ap shape-of (c .in-Some .tree-is) ∙ shaped) .limits, tt)
