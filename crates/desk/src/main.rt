@@ -1,13 +1,18 @@
-//! Shows the parts of a plan's text, which is read from standard input, and the directory of its names.
-use std::alloc::AllocError;
-use std::alloc::Global;
+//! Shows the parts of a plan's text, which is read from standard input, and the plan that it is: its items and its names;
+//! or why it is refused.
+use plan::Item;
+use plan::Leaf;
+use plan::Line;
+use plan::Parsed;
+use plan::PlanError;
+use plan::Sort;
+use plan::parse;
 use std::io;
 use std::io::Read;
 use text::Kind;
 use text::Part;
 use text::Word;
 use text::WordKind;
-use text::gather;
 use text::parts;
 
 // One line for a part: its place, what it is, and its bytes.
@@ -31,42 +36,105 @@ fn show_run(rt: &LibcRuntime, at: usize, what: &str, run: &[u8]) -> io::Result<(
     }
 }
 
-// The names of a text in the order in which they stand, or the place of the first that is no word.
-fn words(heap: Global, list: &[Part]) -> Result<Result<Vec<Word>, usize>, AllocError> {
-    let mut words = Vec::new(heap);
-    for part in list {
-        if let Part::Name { at, run } = part {
-            match Word::of_text(run) {
-                Some(word) => words.push(word)?,
-                None => return Ok(Err(*at)),
-            }
-        }
+fn show_parts(rt: &LibcRuntime, text: &[u8]) -> io::Result<()> {
+    let list = parts(rt.alloc(), text)?;
+    for part in list.iter() {
+        show_part(rt, part)?;
     }
-    Ok(Ok(words))
+    let end = text.len();
+    println!(rt, "{end} end")
 }
 
-fn show_word(rt: &LibcRuntime, number: usize, word: &Word) -> io::Result<()> {
+// A name's text.
+fn print_word(rt: &LibcRuntime, word: &Word) -> io::Result<()> {
     let mut buffer = [0; 12];
     if let Some(n) = word.write(&mut buffer) {
         if n <= buffer.len() {
             if let Ok(text) = std::str::from_utf8(&buffer[0..n]) {
-                println!(rt, "{number} {text}")?;
+                print!(rt, "{text}")?;
             }
         }
     }
     Ok(())
 }
 
-// The directory of the names: each with its number.
-fn show_directory(rt: &LibcRuntime, words: &[Word]) -> io::Result<()> {
-    let mut names = words.to_vec(rt.alloc())?;
-    if let Some(count) = gather(words, names.as_mut_slice()) {
-        println!(rt, "names {count}")?;
-        for (number, word) in names.iter().take(count).enumerate() {
-            show_word(rt, number, word)?;
+// The name of a leaf and its marks.
+fn print_leaf(rt: &LibcRuntime, leaf: &Leaf, names: &[Word]) -> io::Result<()> {
+    if let Some(number) = leaf.name {
+        if let Some(word) = names.get(number as usize) {
+            print_word(rt, word)?;
         }
     }
+    let correction = leaf.marks.correction;
+    if correction != 0 {
+        print!(rt, ":{correction}")?;
+    }
+    if let Some(bay) = leaf.marks.bay {
+        print!(rt, "@{bay}")?;
+    }
     Ok(())
+}
+
+// One line for an item: its number, behind two blanks for each bracket around it, and what it is.
+fn show_item(
+    rt: &LibcRuntime,
+    number: usize,
+    line: &Line,
+    leaves: &[Leaf],
+    names: &[Word],
+) -> io::Result<()> {
+    for _ in 0..line.depth {
+        print!(rt, "  ")?;
+    }
+    match line.item {
+        Item::Bracket(Sort::Lock) => println!(rt, "{number} lock"),
+        Item::Bracket(Sort::Choice) => println!(rt, "{number} choice"),
+        Item::Bracket(Sort::Interleave) => println!(rt, "{number} interleave"),
+        Item::Blank(leaf) => println!(rt, "{number} leaf {leaf} _"),
+        Item::Name(leaf) => {
+            print!(rt, "{number} leaf {leaf} ")?;
+            if let Some(record) = leaves.get(leaf) {
+                print_leaf(rt, record, names)?;
+            }
+            println!(rt, "")
+        }
+    }
+}
+
+fn show_plan(rt: &LibcRuntime, parsed: &Parsed, names: &[Word]) -> io::Result<()> {
+    let lines = parsed.outline(rt.alloc())?;
+    let items = lines.len();
+    let size = parsed.tree.size();
+    let vertices = items.saturating_mul(2);
+    let width = size.width();
+    let cuts = size.cuts();
+    println!(rt, "plan {items} {vertices} {width} {cuts}")?;
+    for (number, line) in lines.iter().enumerate() {
+        show_item(rt, number, line, parsed.leaves.as_slice(), names)?;
+    }
+    let count = parsed.names;
+    println!(rt, "names {count}")?;
+    for (number, word) in names.iter().take(count).enumerate() {
+        print!(rt, "{number} ")?;
+        print_word(rt, word)?;
+        println!(rt, "")?;
+    }
+    Ok(())
+}
+
+fn read(rt: &LibcRuntime, text: &[u8]) -> io::Result<()> {
+    let Some(word) = Word::of_text(b"a") else {
+        return Ok(());
+    };
+    let mut names = [word; 128];
+    match parse(rt.alloc(), text, &mut names) {
+        Ok(parsed) => show_plan(rt, &parsed, &names),
+        Err(PlanError::Refused(refusal)) => {
+            let (number, place) = refusal.number_and_place();
+            println!(rt, "refused {number} {place}")
+        }
+        Err(PlanError::Memory) => println!(rt, "no memory"),
+    }
 }
 
 fn main(rt: LibcRuntime) -> io::Result<()> {
@@ -75,13 +143,6 @@ fn main(rt: LibcRuntime) -> io::Result<()> {
     if text.last().copied() == Some(b'\n') {
         let _ = text.pop();
     }
-    let list = parts(rt.alloc(), text.as_slice())?;
-    for part in list.iter() {
-        show_part(&rt, part)?;
-    }
-    show_part(&rt, &Part::End { at: text.len() })?;
-    match words(rt.alloc(), list.as_slice())? {
-        Ok(words) => show_directory(&rt, words.as_slice()),
-        Err(at) => println!(rt, "refused 3 {at}"),
-    }
+    show_parts(&rt, text.as_slice())?;
+    read(&rt, text.as_slice())
 }

@@ -29,6 +29,7 @@ mod tree;
 mod writer;
 mod writing_laws;
 
+pub use counts::Size;
 pub use cut_laws::cuts_are_formed;
 pub use cut_laws::cuts_are_listed;
 pub use cut_laws::cuts_finish;

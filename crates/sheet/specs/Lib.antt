@@ -1,0 +1,10 @@
+pub mod Scales
+pub mod Fits
+pub mod Joined
+pub mod Ways
+pub mod Answers
+pub mod Ahead
+pub mod Next
+pub mod AnswerLaws
+pub mod RowSets
+pub mod Finish
