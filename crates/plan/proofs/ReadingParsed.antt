@@ -1,14 +1,14 @@
 -- A whole text read, with its names numbered.
 use Prim.Native.Nat.{ℕ, zero, suc, _+_, _≤_, _<_}
-use mathlib.Core.Bool.{Bool}
-use mathlib.Core.Path.{_≡_, refl, sym, ap, subst, _∙_}
+use mathlib.Core.Bool.{Bool, true, false}
+use mathlib.Core.Path.{_≡_, refl, sym, ap, ap₂, subst, _∙_}
 use mathlib.Core.Logic.{inl, inr}
 use mathlib.Core.List.{List, [], _∷_, _++_, map}
 use native.Mathlib.Omega.{arith}
 use lib.ListN.{length, getD, take, drop}
 use lib.Seq.{drop-drop}
 use Rattle.std.proofs.shelf.Lists.{length-map, length-take, take-all}
-use Rattle.std.proofs.shelf.Tests.{cases-bool}
+use Rattle.std.proofs.shelf.Tests.{cases-bool, lt-ltb, and-from, le-leb}
 use Rattle.std.specs.Of.Vec.{vec-items}
 use Rattle.std.specs.declared.option.Option.{Option}
 use Rattle.std.specs.declared.option.Option.the-variants.{Some, None}
@@ -18,7 +18,7 @@ use Rattle.plan.specs.Shape.{Shape, leaf, bracket, join, leaves}
 use Rattle.plan.specs.Limits.{sequence}
 use Rattle.plan.specs.Written.{leaf-text, sign-of, link-sign, no-leaf, written-from}
 use Rattle.plan.specs.Tree.{shape-of}
-use Rattle.plan.specs.Drafts.{draft-text, is-named, Named-at, Placed, kinds, spelled}
+use Rattle.plan.specs.Drafts.{draft-text, is-named, named-to, Named-at, Placed, kinds, spelled}
 use Rattle.plan.specs.Entering.{Has-name, All-named, Below, Matches, Entered, name-runs}
 use Rattle.plan.specs.Faults.{Refuses}
 use Rattle.plan.specs.Readings.{Unrefused}
@@ -27,7 +27,9 @@ use Rattle.plan.specs.Parses.{Nothing, Granted, Judges, Refused-for, Sized-wel
 use Rattle.plan.specs.declared.branch.Branch.{Branch}
 use Rattle.plan.specs.declared.draft.Draft.{Draft}
 use Rattle.plan.specs.declared.leaf.Leaf.{Leaf}
-use Rattle.plan.specs.declared.parsed.Parsed.{Parsed}
+use Rattle.plan.specs.declared.plan.Plan.{Plan}
+use Rattle.plan.specs.LeafFit.{leaf-kinds, name-fits, leaf-fits, all-fit, leaves-fit}
+use lib.Dec.{leb}
 use Rattle.plan.specs.declared.refusal.Refusal.{Refusal}
 use Rattle.plan.specs.declared.refusal.Refusal.the-variants.{Short, Length, Form, NoName, Mark, Depth, Many, Width, Cuts, Twice}
 use Rattle.plan.proofs.Limited.{limits-pass, tested-formed}
@@ -117,7 +119,36 @@ matched-below texts t [] (l ∷ ls) n b h = absurd h
 matched-below texts t (d ∷ ds) [] n b h = absurd h
 matched-below texts t (d ∷ ds) (l ∷ ls) n b h = (below-more (length texts) n (l .name) b (h .0 .below), matched-below texts t ds ls n b (h .1))
 
-pub reads-plan : {K : Type 0} (text : K → Text) (has : List ℕ → Bool) (t : List ℕ) (before after : List K) (ds : List Draft) (b : Branch) (p : Parsed) (i : ℕ)
+-- leaves of the shape's kinds, with numbers of names, fit the shape
+name-fit : (n : ℕ) (o : Option ℕ) → Below n o → name-fits n (named-to o) o ≡ true
+name-fit n None b = refl
+name-fit n (Some k) b = lt-ltb k n b
+
+all-fitting : (n : ℕ) (bs : List Bool) (ls : List Leaf) → bs ≡ map leaf-named ls → All-below n ls → all-fit n bs ls ≡ true
+all-fitting n bs ls e b = subst (λ z. all-fit n z ls ≡ true) (sym e) (go ls b)
+  where
+    go : (ms : List Leaf) → All-below n ms → all-fit n (map leaf-named ms) ms ≡ true
+    go [] h = refl
+    go (l ∷ ms) h = and-from (leaf-fits n (leaf-named l) l) (all-fit n (map leaf-named ms) ms) (name-fit n (l .name) (h .0)) (go ms (h .1))
+
+same-kinds : (e : Shape) → leaf-kinds e ≡ kinds e
+same-kinds (leaf b) = refl
+same-kinds (bracket s e) = same-kinds e
+same-kinds (join l e f) = ap₂ (λ x y. x ++ y) (same-kinds e) (same-kinds f)
+
+pub entered-fit : {K : Type 0} (text : K → Text) (has : List ℕ → Bool) (t : List ℕ) (before after : List K) (ds : List Draft) (b : Branch) (e : Shape) (ls : List Leaf) (n i : ℕ)
+    → Sized-well (length before) t → (g : Granted has t ds b) → e ≡ g .whole .drawn .shape → length ds ≤ i → i ≤ 128 → length ls ≡ i
+    → Entered text t ds before after ls n i → leaves-fit e ls n ≡ true
+entered-fit text has t before after ds b e ls n i s g q l few m h =
+    let texts = map text (take n after) in
+    let a = granted-accepts (length before) e g s q in
+    let all : take i ds ≡ ds = take-all i ds l in
+    let done : Matches texts t ds ls = subst (λ z. Matches texts t ds z) (take-all i ls (omega arith)) (subst (λ z. Matches texts t z (take i ls)) all (h .done)) in
+    let kind : leaf-kinds e ≡ map leaf-named ls = same-kinds e ∙ (a .spells .kind ∙ matched-kinds texts t ds ls done) in
+    let below = matched-below texts t ds ls n (omega (arith, length-map (take n after) text, length-take n after)) done in
+    and-from (leb n 128) (all-fit n (leaf-kinds e) ls) (le-leb n 128 (omega (arith, h .fits))) (all-fitting n (leaf-kinds e) ls kind below)
+
+pub reads-plan : {K : Type 0} (text : K → Text) (has : List ℕ → Bool) (t : List ℕ) (before after : List K) (ds : List Draft) (b : Branch) (p : Plan) (i : ℕ)
     → Sized-well (length before) t → (g : Granted has t ds b) → shape-of (p .tree) ≡ g .whole .drawn .shape → length ds ≤ i → length (vec-items (p .leaves)) ≡ i
     → Entered text t ds before after (vec-items (p .leaves)) (p .names) i → Reads-plan text has t before after p
 reads-plan text has t before after ds b p i s g q l m h =

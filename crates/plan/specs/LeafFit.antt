@@ -3,12 +3,10 @@ use Prim.Native.Nat.{ℕ}
 use mathlib.Core.Bool.{Bool, true, false, _&&_}
 use mathlib.Core.List.{List, [], _∷_, _++_}
 use lib.Dec.{ltb, leb}
-use lib.IntN.{ℤ, pos, negsuc}
 use Rattle.std.specs.declared.option.Option.{Option}
 use Rattle.std.specs.declared.option.Option.the-variants.{Some, None}
 use Rattle.plan.specs.Shape.{Shape, leaf, bracket, join}
 use Rattle.plan.specs.declared.leaf.Leaf.{Leaf}
-use Rattle.plan.specs.declared.leaf.Marks.{Marks}
 
 -- the leaves of a shape in order: a name (true) or `_` (false)
 abbrev pub leaf-kinds : Shape → List Bool
@@ -23,17 +21,8 @@ name-fits names true None = false
 name-fits names false (Some n) = false
 name-fits names false None = true
 
--- a correction is between -32,768 and 32,767, a bay below 64
-abbrev pub correction-fits : ℤ → Bool
-correction-fits (pos n) = ltb n 32768
-correction-fits (negsuc n) = ltb n 32768
-
-abbrev pub bay-fits : Option ℕ → Bool
-bay-fits None = true
-bay-fits (Some b) = ltb b 64
-
 abbrev pub leaf-fits : ℕ → Bool → Leaf → Bool
-leaf-fits names b l = name-fits names b (l .name) && (correction-fits (l .marks .correction) && bay-fits (l .marks .bay))
+leaf-fits names b l = name-fits names b (l .name)
 
 -- as many leaves as the shape has, each of its kind
 abbrev pub all-fit : ℕ → List Bool → List Leaf → Bool

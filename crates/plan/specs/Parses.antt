@@ -20,7 +20,7 @@ use Rattle.std.specs.Of.Vec.{vec-items}
 use Rattle.std.specs.declared.result.Result.{Result}
 use Rattle.std.specs.declared.result.Result.the-variants.{Ok, Err}
 use Rattle.plan.specs.declared.leaf.Leaf.{Leaf}
-use Rattle.plan.specs.declared.parsed.Parsed.{Parsed}
+use Rattle.plan.specs.declared.plan.Plan.{Plan}
 use Rattle.plan.specs.declared.refusal.PlanError.{PlanError}
 use Rattle.plan.specs.declared.refusal.PlanError.the-variants.{Refused, Memory}
 use Rattle.plan.specs.Judged.{Read-whole}
@@ -101,7 +101,7 @@ pub record Accepts (has : List ℕ → Bool) (n : ℕ) (t : List ℕ) (e : Shape
   pub limits : within-limits e ≡ true
 
 -- what reading answers, the names buffer before it and after it
-pub record Reads-plan {K : Type 0} (text : K → List ℕ) (has : List ℕ → Bool) (t : List ℕ) (before after : List K) (p : Parsed) : Type 0 where
+pub record Reads-plan {K : Type 0} (text : K → List ℕ) (has : List ℕ → Bool) (t : List ℕ) (before after : List K) (p : Plan) : Type 0 where
   pub drafts : List Draft
   pub accepts : Accepts has (length before) t (shape-of (p .tree)) drafts
   -- the text is the one that the plan is written as, under the names in the buffer
@@ -115,7 +115,7 @@ pub record Reads-plan {K : Type 0} (text : K → List ℕ) (has : List ℕ → B
   pub texts : map text (take (p .names) after) ≡ directory (name-runs t drafts)
   pub behind : drop (p .names) after ≡ drop (p .names) before
 
-abbrev pub Parse-answer : {K : Type 0} → (K → List ℕ) → (List ℕ → Bool) → List ℕ → List K → List K → Result Parsed PlanError → Type 0
+abbrev pub Parse-answer : {K : Type 0} → (K → List ℕ) → (List ℕ → Bool) → List ℕ → List K → List K → Result Plan PlanError → Type 0
 Parse-answer text has t before after (Ok p) = Reads-plan text has t before after p
 Parse-answer text has t before after (Err (Refused f)) = Refused-for has (length before) t f × (after ≡ before)
 Parse-answer text has t before after (Err Memory) = ((e : Shape) × (ds : List Draft) × Accepts has (length before) t e ds) × (after ≡ before)

@@ -1,4 +1,5 @@
-use super::parsed::Parsed;
+use super::counts::Size;
+use super::plan::Plan;
 use super::tree::Sort;
 use super::tree::Tree;
 use std::alloc::AllocError;
@@ -10,6 +11,7 @@ ghost use Rattle.plan.specs.Limits.{depth as nesting};
 ghost use Rattle.plan.specs.Outlines.{outline-from, Outlines-are-whole};
 ghost use Rattle.plan.specs.Outlines.{outline as outline-of};
 ghost use Rattle.plan.specs.Shape.{leaves as leaf-count};
+ghost use Rattle.plan.specs.Sizes.{Sizes};
 ghost use Rattle.plan.specs.Tree.{shape-of};
 ghost use Rattle.std.specs.Of.Vec.{vec-items};
 ghost use Rattle.std.specs.Vec.{made};
@@ -73,7 +75,7 @@ impl Tree {
     }
 }
 
-impl Parsed {
+impl Plan {
     /// The items of the plan in the order of their numbers.
     pub fn outline(&self, heap: Global) -> Result<Vec<Line>, AllocError>
         ensures { λ r. ⌜ made r (λ v. vec-items v ≡ outline-of (shape-of (now (self .entry) .tree))) ⌝ }
@@ -81,6 +83,13 @@ impl Parsed {
         let mut lines = Vec::new(heap);
         self.tree.list_items(0, 0, &mut lines)?;
         Ok(lines)
+    }
+
+    /// The counts and widths of the plan.
+    pub fn size(&self) -> Size
+        ensures { λ r. ⌜ Sizes (shape-of (now (self .entry) .tree)) r ⌝ }
+    {
+        self.tree.size()
     }
 }
 

@@ -1,16 +1,17 @@
 use super::entering::blank_leaves;
 use super::entering::enter_all;
 use super::judge::judge;
-use super::parsed::Parsed;
+use super::plan::Plan;
 use super::reader::Reader;
 use super::refusal::PlanError;
 use super::refusal::Refusal;
+use super::rows::lay_out;
 use std::alloc::Global;
 use text::Kind;
 ghost use Rattle.plan.specs.Parses.{Parse-answer};
 
 /// Reads a plan's text. The distinct names are written to the front of the buffer, in the order in which they come first.
-pub fn parse<K: Kind>(heap: Global, text: &[u8], names: &mut [K]) -> Result<Parsed, PlanError>
+pub fn parse<K: Kind>(heap: Global, text: &[u8], names: &mut [K]) -> Result<Plan, PlanError>
     ensures { λ r. ⌜ Parse-answer (K·Kind .text) has (now (text .entry)) (now (names .entry)) (now (names .exit)) r ⌝ }
 {
     if names.len() < 128 {
@@ -30,13 +31,18 @@ pub fn parse<K: Kind>(heap: Global, text: &[u8], names: &mut [K]) -> Result<Pars
     let Some(tree) = plan.tree else {
         return Err(PlanError::Memory);
     };
+    let Ok(layout) = lay_out(&tree, heap) else {
+        return Err(PlanError::Memory);
+    };
     let Ok(mut leaves) = blank_leaves(heap, &reader) else {
         return Err(PlanError::Memory);
     };
     let count = enter_all(&reader, names, &mut leaves);
-    Ok(Parsed {
+    Ok(Plan {
         tree,
         leaves,
         names: count,
+        rows: layout.rows,
+        moves: layout.moves,
     })
 }
