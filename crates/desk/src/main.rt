@@ -3,7 +3,7 @@
 use plan::Item;
 use plan::Leaf;
 use plan::Line;
-use plan::Parsed;
+use plan::Plan;
 use plan::PlanError;
 use plan::Sort;
 use plan::parse;
@@ -101,18 +101,18 @@ fn show_item(
     }
 }
 
-fn show_plan(rt: &LibcRuntime, parsed: &Parsed, names: &[Word]) -> io::Result<()> {
-    let lines = parsed.outline(rt.alloc())?;
+fn show_plan(rt: &LibcRuntime, plan: &Plan, names: &[Word]) -> io::Result<()> {
+    let lines = plan.outline(rt.alloc())?;
     let items = lines.len();
-    let size = parsed.tree.size();
+    let size = plan.size();
     let vertices = items.saturating_mul(2);
     let width = size.width();
     let cuts = size.cuts();
     println!(rt, "plan {items} {vertices} {width} {cuts}")?;
     for (number, line) in lines.iter().enumerate() {
-        show_item(rt, number, line, parsed.leaves.as_slice(), names)?;
+        show_item(rt, number, line, plan.leaves(), names)?;
     }
-    let count = parsed.names;
+    let count = plan.names();
     println!(rt, "names {count}")?;
     for (number, word) in names.iter().take(count).enumerate() {
         print!(rt, "{number} ")?;
@@ -128,7 +128,7 @@ fn read(rt: &LibcRuntime, text: &[u8]) -> io::Result<()> {
     };
     let mut names = [word; 128];
     match parse(rt.alloc(), text, &mut names) {
-        Ok(parsed) => show_plan(rt, &parsed, &names),
+        Ok(plan) => show_plan(rt, &plan, &names),
         Err(PlanError::Refused(refusal)) => {
             let (number, place) = refusal.number_and_place();
             println!(rt, "refused {number} {place}")

@@ -2,7 +2,7 @@
 //! reading each answers.
 ghost use Prim.Native.Nat.{_≤_};
 ghost use lib.ListN.{length};
-use plan::Parsed;
+use plan::Plan;
 use plan::PlanError;
 use plan::parse;
 use std::io;
@@ -27,10 +27,10 @@ fn line_end(bytes: &[u8], from: usize) -> usize
 }
 
 // Items, vertices, width and cuts.
-fn show_plan(rt: &LibcRuntime, parsed: &Parsed) -> io::Result<()> {
-    let items = parsed.outline(rt.alloc())?.len();
+fn show_plan(rt: &LibcRuntime, plan: &Plan) -> io::Result<()> {
+    let items = plan.outline(rt.alloc())?.len();
     let vertices = items.saturating_mul(2);
-    let size = parsed.tree.size();
+    let size = plan.size();
     let width = size.width();
     let cuts = size.cuts();
     println!(rt, "plan {items} {vertices} {width} {cuts}")
@@ -38,7 +38,7 @@ fn show_plan(rt: &LibcRuntime, parsed: &Parsed) -> io::Result<()> {
 
 fn show<K: Kind>(rt: &LibcRuntime, text: &[u8], names: &mut [K]) -> io::Result<()> {
     match parse(rt.alloc(), text, names) {
-        Ok(parsed) => show_plan(rt, &parsed),
+        Ok(plan) => show_plan(rt, &plan),
         Err(PlanError::Refused(refusal)) => {
             let (number, place) = refusal.number_and_place();
             println!(rt, "refused {number} {place}")
