@@ -12,6 +12,13 @@ pub mod Back
 pub mod Beyond
 pub mod Following
 pub mod Onward
+pub mod Grounds
+pub mod Stamping
+pub mod Answering
+pub mod Listings
+pub mod Known
+pub mod Transcripts
+pub mod Playing
 pub mod RowBits
 pub mod Finishes
 pub mod Firsts
@@ -19,3 +26,6 @@ pub mod Advances
 pub mod Leasts
 pub mod Choosing
 pub mod Chosen
+pub mod FirstReadings
+pub mod ChosenOn
+pub mod ChosenFirst

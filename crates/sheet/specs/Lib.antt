@@ -5,6 +5,11 @@ pub mod Ways
 pub mod Answers
 pub mod Ahead
 pub mod Next
-pub mod AnswerLaws
 pub mod RowSets
 pub mod Finish
+pub mod AnswerLaws
+pub mod Refusals
+pub mod Calls
+pub mod Views
+pub mod Runs
+pub mod Played
