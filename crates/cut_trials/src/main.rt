@@ -30,7 +30,9 @@ fn row_sum(buffer: &[u16], row: usize) -> u64 {
     for column in 0..8usize {
         let at = row.saturating_mul(8).saturating_add(column);
         let vertex = buffer.get(at).copied().unwrap_or(0);
-        sum = sum.wrapping_mul(65599).wrapping_add(u64::from(vertex)).wrapping_add(1);
+        sum = sum.wrapping_mul(65599)
+            .wrapping_add(u64::from(vertex))
+            .wrapping_add(1);
     }
     sum
 }
@@ -43,7 +45,9 @@ fn move_sum(sums: &[u64], m: &RowMove) -> u64 {
         Some(leaf) => u64::from(leaf) + 1,
         None => 0,
     };
-    from.wrapping_mul(31).wrapping_add(to.wrapping_mul(37)).wrapping_add(leaf.wrapping_mul(1000003))
+    from.wrapping_mul(31)
+        .wrapping_add(to.wrapping_mul(37))
+        .wrapping_add(leaf.wrapping_mul(1000003))
 }
 
 fn show(rt: &LibcRuntime, plan: &Plan, buffer: &mut [u16]) -> io::Result<()> {

@@ -80,7 +80,10 @@ ghost-result g c =
     let shaped = subst (Of-shape (y .whole .drawn .shape)) (c .in-Some .is) (y .whole .drawn .meant .tree) in
     let q = ap shape-of (c .in-Some .tree-is) ∙ shaped in
     let h = subst (λ t. Entered (g .K·Kind .text) t (drafts-of r) (c .args .names .now) (c .enter-all-count .last .names) (vec-items (c .enter-all-count .last .leaves)) (c .enter-all-count .result) (r .leaves)) same (c .enter-all-count .ensures .entered) in
-    let long : length (drafts-of r) ≤ r .leaves = omega (arith, length-take (r .leaves) (r .drafts)) in
-    (granted-accepts (length (c .args .names .now)) _ y s q .limits,
-      (entered-fit (g .K·Kind .text) (g .K·Kind .has) (c .args .text .now) (c .args .names .now) (c .enter-all-count .last .names) (drafts-of r) (c .in-Ok .plan) _ _ _ (r .leaves) s y q long (c .judge .ensures .few) (c .enter-all-count .ensures .long) h,
-        (c .in-Ok-lay-out .ensures tt .0, (c .in-Ok-lay-out .ensures tt .1, tt))))
+    let long : length (drafts-of r) ≤ r .leaves = omega (arith, length-take (r .leaves) (r .drafts)) in (
+      granted-accepts (length (c .args .names .now)) _ y s q .limits,
+      (
+        entered-fit (g .K·Kind .text) (g .K·Kind .has) (c .args .text .now) (c .args .names .now) (c .enter-all-count .last .names) (drafts-of r) (c .in-Ok .plan) _ _ _ (r .leaves) s y q long (c .judge .ensures .few) (c .enter-all-count .ensures .long) h,
+        (c .in-Ok-lay-out .ensures tt .0, (c .in-Ok-lay-out .ensures tt .1, tt)),
+      ),
+    )
