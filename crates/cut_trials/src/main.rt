@@ -1,5 +1,7 @@
 //! Reads plans' texts from standard input, one to a line, and prints for each how many cuts it has, a sum over its rows, how
 //! many moves it has, and a sum over its moves. The sums do not depend on the order of rows and moves.
+#![tactic(auto)]
+
 use plan::{Plan, RowMove, read};
 use show::line_at;
 use std::io;

@@ -1,5 +1,7 @@
 //! Puts calls to a sheet: the first line of standard input is a plan's text, and each line behind it a call. Prints the plan's
 //! counts, and each call with its answer.
+#![tactic(auto)]
+
 use show::{Buffers, line_at, run};
 use std::io;
 use std::io::Read;

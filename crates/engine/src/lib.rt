@@ -1,5 +1,7 @@
 //! The engine of the calls on a sheet: amounts in any scale, and one pass over a plan's rows and moves that answers every
 //! call. What it exports is for the crate `sheet`, whose calls meet what it requires; they are the product's calls.
+#![tactic(auto)]
+
 mod advance;
 mod amounts;
 mod answer_laws;

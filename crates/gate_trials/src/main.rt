@@ -1,5 +1,7 @@
 //! Reads load files from standard input, each behind a line with the kind of its names and its length in bytes, and prints
 //! what the gate program for that kind prints of it.
+#![tactic(auto)]
+
 ghost use Rattle.std.specs.Prelude.{◌<◌, ◌≤◌, length, IfSome};
 
 use load::{next_line, print_file};

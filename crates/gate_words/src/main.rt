@@ -1,4 +1,6 @@
 //! Judges a load file with words for names, which is read from standard input, and prints its lines, or why it is refused.
+#![tactic(auto)]
+
 use load::print_file;
 use std::io;
 use std::io::{Read, Write};

@@ -1,5 +1,7 @@
 //! The texts of plans: their grammar, when and why a text is refused, and the one text that a plan is written as, as
 //! definitions with theorems; and the types of leaves and refusals.
+#![tactic(auto)]
+
 mod form_laws;
 mod leaf;
 mod refusal;

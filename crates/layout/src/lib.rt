@@ -1,5 +1,7 @@
 //! Plans as trees: their counts and widths, their items, and their cuts laid out in rows with the moves between them. What it
 //! exports is for the crate `plan`, whose calls meet what it requires; they are the product's calls.
+#![tactic(auto)]
+
 mod counts;
 mod layout;
 mod layout_laws;

@@ -1,4 +1,6 @@
 //! Load files: where a file's plan and its stamp lines stand, and the lines that are printed.
+#![tactic(auto)]
+
 mod answers;
 mod gate;
 mod judgement;

@@ -1,5 +1,7 @@
 //! What plans mean: strands, logs, cuts, moves, walks, counts, widths and limits, as definitions with theorems, each on the
 //! contract of a small function.
+#![tactic(auto)]
+
 mod cut_laws;
 mod strand_laws;
 

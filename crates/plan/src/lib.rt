@@ -1,5 +1,7 @@
 //! Plans: how they are read, held, laid out and written. The theorems on what they mean, on their texts and on their layout are
 //! those of `meaning`, `grammar` and `layout`.
+#![tactic(auto)]
+
 mod laid;
 mod outlined;
 mod parsing;

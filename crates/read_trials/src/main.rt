@@ -1,5 +1,7 @@
 //! Reads plans' texts from standard input, one to a line behind `w` (words) or `b` (badges) and a blank, and prints what
 //! reading each answers.
+#![tactic(auto)]
+
 use plan::{Plan, read};
 use show::{line_at, show_counts, show_error};
 use std::io;

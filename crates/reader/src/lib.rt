@@ -1,5 +1,7 @@
 //! Reads a plan's text: its tree, its leaves and its names, or the first refusal of it. What it exports is for the crate
 //! `plan`, whose calls meet what it requires; they are the product's calls.
+#![tactic(auto)]
+
 mod branch;
 mod draft;
 mod entering;

@@ -1,4 +1,6 @@
 //! Sheets: the calls on a sheet of a plan, and the law over runs of calls.
+#![tactic(auto)]
+
 mod calls;
 mod check;
 mod check_laws;

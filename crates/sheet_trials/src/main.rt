@@ -1,5 +1,7 @@
 //! Reads blocks from standard input, each of a plan's text behind `w` (words) or `b` (badges) and a blank, call lines, and a
 //! blank line, and prints for each block the plan's counts and every call with its answer.
+#![tactic(auto)]
+
 ghost use Rattle.std.specs.Prelude.{◌+◌, ◌≤◌, length};
 
 use show::{Buffers, Line, line_at, run};

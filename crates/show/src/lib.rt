@@ -1,4 +1,6 @@
 //! Call lines: what each asks of a sheet, and the lines that its answers are printed in.
+#![tactic(auto)]
+
 mod answers;
 mod buffers;
 mod lines;

@@ -1,4 +1,6 @@
 //! Parts of a plan's text, names of any kind, directories of names, and decimal numbers.
+#![tactic(auto)]
+
 mod badge;
 mod byte;
 mod decimal;

@@ -1,4 +1,6 @@
 //! Examples of what the libraries do, each proved to return and then run.
+#![tactic(auto)]
+
 #[cfg(test)]
 mod decimals;
 #[cfg(test)]
