@@ -15,9 +15,9 @@ fn to_come<K: Kind>(
     numbers: &mut [u16],
     amounts: &mut [Pair<Span, Bays>],
 ) -> (usize, usize)
-    requires enough { lack (length (ground_of text sheet.now).texts) (length numbers.old) (length amounts.old) ≡ None }
-    requires begun { Begins (ground_of text sheet.now) (stands_on text sheet.now) }
-    ensures { ToCome (ground_of text sheet.now) (stands_on text sheet.now) result.0 result.1 }
+    requires enough { lack (length (ground_of K.text sheet.now).texts) (length numbers.old) (length amounts.old) ≡ None }
+    requires begun { Begins (ground_of K.text sheet.now) (stands_on K.text sheet.now) }
+    ensures { ToCome (ground_of K.text sheet.now) (stands_on K.text sheet.now) result.0 result.1 }
 {
     match sheet.distance(numbers, amounts) {
         Ok((fewest, most)) => (usize::from(fewest), usize::from(most)),
@@ -32,9 +32,9 @@ fn finished<K: Kind>(
     numbers: &mut [u16],
     amounts: &mut [Pair<Span, Bays>],
 ) -> Option<Finished>
-    requires enough { lack (length (ground_of text sheet.now).texts) (length numbers.old) (length amounts.old) ≡ None }
-    requires room { lack_list (length (ground_of text sheet.now).texts) (length reading.old) (length numbers.old) (length amounts.old) ≡ None }
-    ensures { Finishes (ground_of text sheet.now) (stands_on text sheet.now) reading.old reading.new result }
+    requires enough { lack (length (ground_of K.text sheet.now).texts) (length numbers.old) (length amounts.old) ≡ None }
+    requires room { lack_list (length (ground_of K.text sheet.now).texts) (length reading.old) (length numbers.old) (length amounts.old) ≡ None }
+    ensures { Finishes (ground_of K.text sheet.now) (stands_on K.text sheet.now) reading.old reading.new result }
 {
     let Ok(amount) = sheet.amount(numbers, amounts) else {
         return None;
@@ -52,8 +52,8 @@ fn following<K: Kind>(
     numbers: &mut [u16],
     amounts: &mut [Pair<Span, Bays>],
 ) -> usize
-    requires room { lack_list (length (ground_of text sheet.now).texts) (length next.old) (length numbers.old) (length amounts.old) ≡ None }
-    ensures { Lists (ground_of text sheet.now) (stands_on text sheet.now) next.old next.new result }
+    requires room { lack_list (length (ground_of K.text sheet.now).texts) (length next.old) (length numbers.old) (length amounts.old) ≡ None }
+    ensures { Lists (ground_of K.text sheet.now) (stands_on K.text sheet.now) next.old next.new result }
 {
     match sheet.next(next, numbers, amounts) {
         Ok(n) => n,
@@ -71,13 +71,13 @@ pub fn answers<K: Kind>(
     numbers: &mut [u16],
     amounts: &mut [Pair<Span, Bays>],
 ) -> Judgement
-    requires stamps { stamps ≡ length (stands_on text sheet.now) }
-    requires begun { Begins (ground_of text sheet.now) (stands_on text sheet.now) }
-    requires enough { lack (length (ground_of text sheet.now).texts) (length numbers.old) (length amounts.old) ≡ None }
-    requires reading { lack_list (length (ground_of text sheet.now).texts) (length reading.old) (length numbers.old) (length amounts.old) ≡ None }
-    requires next { lack_list (length (ground_of text sheet.now).texts) (length next.old) (length numbers.old) (length amounts.old) ≡ None }
+    requires stamps { stamps ≡ length (stands_on K.text sheet.now) }
+    requires begun { Begins (ground_of K.text sheet.now) (stands_on K.text sheet.now) }
+    requires enough { lack (length (ground_of K.text sheet.now).texts) (length numbers.old) (length amounts.old) ≡ None }
+    requires reading { lack_list (length (ground_of K.text sheet.now).texts) (length reading.old) (length numbers.old) (length amounts.old) ≡ None }
+    requires next { lack_list (length (ground_of K.text sheet.now).texts) (length next.old) (length numbers.old) (length amounts.old) ≡ None }
     ensures counts { result.counts ≡ counts }
-    ensures answers { AnswersOf (ground_of text sheet.now) (stands_on text sheet.now) reading.old reading.new next.old next.new result }
+    ensures answers { AnswersOf (ground_of K.text sheet.now) (stands_on K.text sheet.now) reading.old reading.new next.old next.new result }
 {
     let (fewest, most) = to_come(sheet, numbers, amounts);
     let finished = finished(sheet, reading, numbers, amounts);

@@ -23,7 +23,7 @@ fn print_judged<K: Kind>(
     amounts: &mut [Pair<Span, Bays>],
     out: &mut Vec<u8>,
 ) -> Result<(), AllocError>
-    ensures { OnOk result (Prints text has file.now names.old (lent_short (length names.old) (length reading.old) (length next.old) (length numbers.old) (length amounts.old)) out.old.items out.new.items) }
+    ensures { OnOk result (Prints K.text K.has file.now names.old (lent_short (length names.old) (length reading.old) (length next.old) (length numbers.old) (length amounts.old)) out.old.items out.new.items) }
 {
     match judge(heap, file, plan, names, reading, next, numbers, amounts) {
         Ok(judgement) => write_judgement(out, &judgement, names, reading, next),
@@ -42,7 +42,7 @@ pub fn print_file<K: Kind>(
     names: &mut [K],
     out: &mut Vec<u8>,
 ) -> Result<(), AllocError>
-    ensures { OnOk result (Prints text has file.now names.old (lent_short (length names.old) 128 128 32768 8192) out.old.items out.new.items) }
+    ensures { OnOk result (Prints K.text K.has file.now names.old (lent_short (length names.old) 128 128 32768 8192) out.old.items out.new.items) }
 {
     let mut plan = Plan::new(heap)?;
     let mut reading = [0; 128];

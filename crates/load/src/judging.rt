@@ -55,7 +55,7 @@ fn judge_stamps<'x, K: Kind>(
     amounts: &mut [Pair<Span, Bays>],
 ) -> Result<Judgement, LoadError>
     requires { lent_short (length names.now) (length reading.old) (length next.old) (length numbers.old) (length amounts.old) ≡ None }
-    ensures { StampsJudged has (ground_over text plan.now names.now) (stamp_lines file.now opening.frame) opening.counts reading.old reading.new next.old next.new result }
+    ensures { StampsJudged K.has (ground_over K.text plan.now names.now) (stamp_lines file.now opening.frame) opening.counts reading.old reading.new next.old next.new result }
 {
     let counts = opening.counts;
     let from = opening.frame.stamps;
@@ -78,7 +78,7 @@ pub fn judge<K: Kind>(
     numbers: &mut [u16],
     amounts: &mut [Pair<Span, Bays>],
 ) -> Result<Judgement, LoadError>
-    ensures answer { Judging text has file.now names.old names.new plan.new reading.old reading.new next.old next.new (lent_short (length names.old) (length reading.old) (length next.old) (length numbers.old) (length amounts.old)) result }
+    ensures answer { Judging K.text K.has file.now names.old names.new plan.new reading.old reading.new next.old next.new (lent_short (length names.old) (length reading.old) (length next.old) (length numbers.old) (length amounts.old)) result }
     ensures kept { LeftAlone result reading.old reading.new next.old next.new }
 {
     if let Some(n) = lacking(

@@ -9,7 +9,7 @@ use text::Kind;
 
 /// Puts a space and a name's text behind what is there.
 pub fn push_name<K: Kind>(out: &mut Vec<u8>, name: &K) -> Result<(), AllocError>
-    ensures { Appends (spaced (text name.now)) out.old out.new result }
+    ensures { Appends (spaced (K.text name.now)) out.old out.new result }
 {
     push_text(out, b" ")?;
     let mut buffer = [0; 12];
@@ -21,7 +21,7 @@ pub fn push_name<K: Kind>(out: &mut Vec<u8>, name: &K) -> Result<(), AllocError>
 
 // Puts a space and the text of the name of a number behind what is there.
 fn push_numbered<K: Kind>(out: &mut Vec<u8>, names: &[K], number: u16) -> Result<(), AllocError>
-    ensures { Appends (named (map text names.now) number) out.old out.new result }
+    ensures { Appends (named (map K.text names.now) number) out.old out.new result }
 {
     let i = usize::from(number);
     if i < names.len() {
@@ -33,7 +33,7 @@ fn push_numbered<K: Kind>(out: &mut Vec<u8>, names: &[K], number: u16) -> Result
 
 // The same for each number of a list.
 fn push_named<K: Kind>(out: &mut Vec<u8>, names: &[K], list: &[u16]) -> Result<(), AllocError>
-    ensures { Appends (flat_map (named (map text names.now)) list.now) out.old out.new result }
+    ensures { Appends (flat_map (named (map K.text names.now)) list.now) out.old out.new result }
 {
     for n in list {
         push_numbered(out, names, *n)?;
@@ -43,7 +43,7 @@ fn push_named<K: Kind>(out: &mut Vec<u8>, names: &[K], list: &[u16]) -> Result<(
 
 /// Puts the sixth line behind what is there: the texts of the names whose numbers a list has.
 pub fn write_next<K: Kind>(out: &mut Vec<u8>, names: &[K], list: &[u16]) -> Result<(), AllocError>
-    ensures { Appends (next_line (map text names.now) list.now) out.old out.new result }
+    ensures { Appends (next_line (map K.text names.now) list.now) out.old out.new result }
 {
     push_text(out, b"next")?;
     push_named(out, names, list)?;

@@ -21,7 +21,7 @@ pub fn open_file<K: Kind>(
     plan: &mut Plan,
     names: &mut [K],
 ) -> Result<Opening, LoadError>
-    ensures { OpeningAnswer text has file.now names.old names.new plan.new result }
+    ensures { OpeningAnswer K.text K.has file.now names.old names.new plan.new result }
 {
     let frame = match frame_of(file) {
         Ok(frame) => frame,

@@ -98,7 +98,7 @@ pub fn write_judgement<K: Kind>(
     reading: &[u16],
     next: &[u16],
 ) -> Result<(), AllocError>
-    ensures { Appends (judgement_bytes reading.now (map text names.now) next.now judgement.now) out.old out.new result }
+    ensures { Appends (judgement_bytes reading.now (map K.text names.now) next.now judgement.now) out.old out.new result }
 {
     write_report(out, judgement, reading)?;
     write_next(out, names, front(next, judgement.next))

@@ -18,12 +18,12 @@ pub fn stamp_lines<K: Kind, S: Scale>(
     numbers: &mut [u16],
     amounts: &mut [S],
 ) -> Result<usize, LoadRefusal>
-    requires enough { lack (length (ground_of text sheet.old).texts) (length numbers.old) (length amounts.old) ≡ None }
-    requires empty { stands_on text sheet.old ≡ [] }
-    requires begun { Begins (ground_of text sheet.old) (stands_on text sheet.old) }
+    requires enough { lack (length (ground_of K.text sheet.old).texts) (length numbers.old) (length amounts.old) ≡ None }
+    requires empty { stands_on K.text sheet.old ≡ [] }
+    requires begun { Begins (ground_of K.text sheet.old) (stands_on K.text sheet.old) }
     ensures plan { sheet.new.plan ≡ sheet.old.plan }
     ensures names { sheet.new.names ≡ sheet.old.names }
-    ensures answer { LinesStamped has (ground_of text sheet.old) (lines_at from (drop from body.now)) (stands_on text sheet.new) result }
+    ensures answer { LinesStamped K.has (ground_of K.text sheet.old) (lines_at from (drop from body.now)) (stands_on K.text sheet.new) result }
 {
     let mut at = from;
     let mut count = 0;

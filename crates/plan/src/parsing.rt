@@ -9,7 +9,7 @@ use text::Kind;
 
 /// Reads a plan's text. The distinct names are written to the front of the buffer, in the order in which they come first.
 pub fn parse<K: Kind>(heap: Global, text: &[u8], names: &mut [K]) -> Result<Plan, PlanError>
-    ensures { ParseAnswer K.Kind.text has text.now names.old names.new result }
+    ensures { ParseAnswer K.Kind.text K.has text.now names.old names.new result }
 {
     if names.len() < 128 {
         return Err(PlanError::Refused(Refusal::Short(128)));

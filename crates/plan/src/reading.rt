@@ -44,7 +44,7 @@ pub fn read<K: Kind>(
     plan: &mut Plan,
     names: &mut [K],
 ) -> Result<Counts, PlanError>
-    ensures { ReadAnswer K.Kind.text has text.now names.old names.new plan.old plan.new result }
+    ensures { ReadAnswer K.Kind.text K.has text.now names.old names.new plan.old plan.new result }
 {
     match parse(heap, text, names) {
         Ok(new) => {

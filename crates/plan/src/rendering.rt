@@ -14,7 +14,7 @@ impl Plan {
     /// there are fewer than 128 names, where the buffer is shorter than the text, and where one of the plan's names stands
     /// twice; the buffer then stays as it was.
     pub fn write<K: Kind>(&self, names: &[K], buffer: &mut [u8]) -> Result<usize, Refusal>
-        ensures { Renders (written (shape_of self.now.tree) self.now.leaves.items (map text names.now)) (map text names.now) self.now.names buffer.old buffer.new result }
+        ensures { Renders (written (shape_of self.now.tree) self.now.leaves.items (map K.text names.now)) (map K.text names.now) self.now.names buffer.old buffer.new result }
     {
         render(&self.tree, &self.leaves, self.names, names, buffer)
     }

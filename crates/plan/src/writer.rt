@@ -36,8 +36,8 @@ fn write_digits(n: u32, buffer: &mut [u8], at: usize) -> usize
 }
 
 fn write_name<K: Kind>(name: &K, buffer: &mut [u8], at: usize) -> usize
-    requires { at + length (text name.now) ≤ length buffer.old }
-    ensures { Laid at (text name.now) buffer.old buffer.new result }
+    requires { at + length (K.text name.now) ≤ length buffer.old }
+    ensures { Laid at (K.text name.now) buffer.old buffer.new result }
 {
     at + name.write(&mut buffer[at..]).unwrap()
 }
@@ -81,8 +81,8 @@ fn write_marks(marks: Marks, buffer: &mut [u8], at: usize) -> usize
 // A name with its marks, or `_`.
 fn write_leaf<K: Kind>(leaf: Leaf, names: &[K], buffer: &mut [u8], at: usize) -> usize
     requires named { Numbered (length names.now) leaf.name }
-    requires room { at + length (leaf_text (map text names.now) leaf) ≤ length buffer.old }
-    ensures { Laid at (leaf_text (map text names.now) leaf) buffer.old buffer.new result }
+    requires room { at + length (leaf_text (map K.text names.now) leaf) ≤ length buffer.old }
+    ensures { Laid at (leaf_text (map K.text names.now) leaf) buffer.old buffer.new result }
 {
     match leaf.name {
         None => write_byte(b'_', buffer, at),
@@ -115,7 +115,7 @@ fn separator(link: Link) -> u8
 // How many bytes the text of a leaf has.
 fn leaf_length<K: Kind>(leaf: Leaf, names: &[K]) -> usize
     requires { Numbered (length names.now) leaf.name }
-    ensures count { result ≡ length (leaf_text (map text names.now) leaf) }
+    ensures count { result ≡ length (leaf_text (map K.text names.now) leaf) }
     ensures small { result ≤ 23 }
 {
     let mut scratch = [0; 23];
@@ -128,7 +128,7 @@ fn end_of<K: Kind>(tree: &Tree, leaves: &[Leaf], names: &[K], from: Place) -> Pl
     requires named { AllNumbered (length names.now) leaves.now }
     requires few { from.byte + 24 * items (shape_of tree.now) < 2 ^ 32 }
     ensures leaf { result.leaf ≡ from.leaf + leaf_count (shape_of tree.now) }
-    ensures byte { result.byte ≡ from.byte + length (written_from from.leaf (shape_of tree.now) leaves.now (map text names.now)) }
+    ensures byte { result.byte ≡ from.byte + length (written_from from.leaf (shape_of tree.now) leaves.now (map K.text names.now)) }
     ensures small { result.byte + 1 ≤ from.byte + 24 * items (shape_of tree.now) }
 {
     match tree {
@@ -168,9 +168,9 @@ fn write_tree<K: Kind>(
 ) -> Place
     requires enough { from.leaf + leaf_count (shape_of tree.now) ≤ length leaves.now }
     requires named { AllNumbered (length names.now) leaves.now }
-    requires room { from.byte + length (written_from from.leaf (shape_of tree.now) leaves.now (map text names.now)) ≤ length buffer.old }
+    requires room { from.byte + length (written_from from.leaf (shape_of tree.now) leaves.now (map K.text names.now)) ≤ length buffer.old }
     ensures leaf { result.leaf ≡ from.leaf + leaf_count (shape_of tree.now) }
-    ensures laid { Laid from.byte (written_from from.leaf (shape_of tree.now) leaves.now (map text names.now)) buffer.old buffer.new result.byte }
+    ensures laid { Laid from.byte (written_from from.leaf (shape_of tree.now) leaves.now (map K.text names.now)) buffer.old buffer.new result.byte }
 {
     match tree {
         Tree::Leaf(_) => Place {
@@ -205,7 +205,7 @@ fn text_length<K: Kind>(tree: &Tree, leaves: &[Leaf], names: &[K]) -> usize
     requires enough { leaf_count (shape_of tree.now) ≤ length leaves.now }
     requires named { AllNumbered (length names.now) leaves.now }
     requires few { items (shape_of tree.now) ≤ 192 }
-    ensures { result ≡ length (written (shape_of tree.now) leaves.now (map text names.now)) }
+    ensures { result ≡ length (written (shape_of tree.now) leaves.now (map K.text names.now)) }
 {
     end_of(tree, leaves, names, Place { leaf: 0, byte: 0 }).byte
 }
@@ -213,7 +213,7 @@ fn text_length<K: Kind>(tree: &Tree, leaves: &[Leaf], names: &[K]) -> usize
 // The smallest number below `count` whose name stands earlier among the names.
 fn first_twice<K: Kind>(names: &[K], count: usize) -> Option<usize>
     requires { count ≤ length names.now }
-    ensures { FirstTwice (map text names.now) count result }
+    ensures { FirstTwice (map K.text names.now) count result }
 {
     for n in 0..count {
         if find(&names[0..n], &names[n]).is_some() {
@@ -237,7 +237,7 @@ pub fn render<K: Kind>(
     requires few { items (shape_of tree.now) ≤ 192 }
     requires counted { count ≤ 128 }
     requires named { AllNumbered count leaves.now }
-    ensures { Renders (written (shape_of tree.now) leaves.now (map text names.now)) (map text names.now) count buffer.old buffer.new result }
+    ensures { Renders (written (shape_of tree.now) leaves.now (map K.text names.now)) (map K.text names.now) count buffer.old buffer.new result }
 {
     if names.len() < NAMES {
         return Err(Refusal::Short(NAMES));

@@ -41,7 +41,7 @@ pub fn leaves_have_one_reading() -> u8
 
 /// What `read` reads is written back: under the names that were read with it, `write` gives the text that was read.
 pub fn texts_are_written_back<K: Kind>() -> u8
-    ensures { WrittenBack K.Kind.text has }
+    ensures { WrittenBack K.Kind.text K.has }
 {
     0
 }

@@ -12,7 +12,7 @@ use text::{Entry, Kind, add};
 fn number<K: Kind>(names: &mut [K], count: usize, name: K) -> (u8, usize)
     requires room { count < length names.old }
     requires small { count < 128 }
-    ensures { Numbered text names.old names.new count (text name) result.0 result.1 }
+    ensures { Numbered K.text names.old names.new count (K.text name) result.0 result.1 }
 {
     let Some(entry) = add(names, count, name) else {
         return (0, count);
@@ -25,7 +25,7 @@ fn number<K: Kind>(names: &mut [K], count: usize, name: K) -> (u8, usize)
 
 // The leaf of a draft, and how many names there are then.
 fn enter<K: Kind>(text: &[u8], draft: Draft, names: &mut [K], count: usize) -> (Leaf, usize)
-    requires named { HasName has text.now draft.at draft.end }
+    requires named { HasName K.has text.now draft.at draft.end }
     requires room { count < length names.old }
     requires small { count < 128 }
     ensures { Enters K.Kind.text text.now draft names.old names.new count result.0 result.1 }
@@ -76,9 +76,9 @@ pub fn enter_all<K: Kind>(reader: &Reader, names: &mut [K], leaves: &mut Vec<Lea
     requires room { 128 ≤ length names.old }
     requires few { reader.now.leaves ≤ 128 }
     requires long { length leaves.old.items ≡ reader.now.leaves }
-    requires named { AllNamed has reader.now.text.now (drafts_of reader.now) }
+    requires named { AllNamed K.has reader.now.text.now (drafts_of reader.now) }
     ensures long { length leaves.new.items ≡ reader.now.leaves }
-    ensures entered { Entered text reader.now.text.now (drafts_of reader.now) names.old names.new leaves.new.items result reader.now.leaves }
+    ensures entered { Entered K.text reader.now.text.now (drafts_of reader.now) names.old names.new leaves.new.items result reader.now.leaves }
 {
     let mut count = 0;
     for i in 0..reader.leaves {

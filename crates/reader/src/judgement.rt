@@ -33,7 +33,7 @@ fn after(at: usize, len: usize) -> usize
 // The first refusal of all, where one is the first of those that do not depend on the kind.
 fn first_refusal<K: Kind>(text: &[u8], found: Refusal) -> Refusal
     requires { First any text.now found }
-    ensures { First has text.now result }
+    ensures { First K.has text.now result }
 {
     match first_unnamed::<K>(text, limit(found, text.len())) {
         Some(at) => Refusal::NoName(at),
@@ -46,7 +46,7 @@ pub fn judge<K: Kind>(heap: Global, reader: &mut Reader) -> Result<Branch, Refus
     requires { (reader.old.at ≡ 0) × (reader.old.leaves ≡ 0) × (reader.old.brackets ≡ 0) }
     ensures same { reader.new.text ≡ reader.old.text }
     ensures few { reader.new.leaves ≤ 128 }
-    ensures judged { MatchResult result (λ b. Granted has reader.old.text.now (drafts_of reader.new) b) (λ f. Judges has reader.old.text.now f) }
+    ensures judged { MatchResult result (λ b. Granted K.has reader.old.text.now (drafts_of reader.new) b) (λ f. Judges K.has reader.old.text.now f) }
 {
     let plan = match reader.read(heap) {
         Ok(plan) => plan,

@@ -6,7 +6,7 @@ use text::{Kind, Part, is_name_byte, part_at};
 // Whether a name begins at a place that the kind does not have.
 fn lacks_name<K: Kind>(text: &[u8], at: usize) -> bool
     requires { at < length text.now }
-    ensures { result ≡ lacks has text.now at }
+    ensures { result ≡ lacks K.has text.now at }
 {
     if at > 0 && is_name_byte(text[at - 1]) {
         return false;
@@ -23,7 +23,7 @@ fn lacks_name<K: Kind>(text: &[u8], at: usize) -> bool
 /// The first place below a limit where a name begins that the kind does not have.
 pub fn first_unnamed<K: Kind>(text: &[u8], limit: usize) -> Option<usize>
     requires { limit ≤ length text.now }
-    ensures { Unnamed has text.now limit result }
+    ensures { Unnamed K.has text.now limit result }
 {
     for at in 0..limit {
         if lacks_name::<K>(text, at) {

@@ -59,7 +59,7 @@ fn log_begins<K: Kind, S: Scale>(
     requires among { All (λ n. n < length names.now) stamps.now }
     requires numbers_room { 32768 ≤ length numbers.old }
     requires amounts_room { 8192 ≤ length amounts.old }
-    ensures { Decides result (Begins (ground_over text plan.now names.now) (standing (map text names.now) stamps.now)) }
+    ensures { Decides result (Begins (ground_over K.text plan.now names.now) (standing (map K.text names.now) stamps.now)) }
 {
     live_after(
         plan.moves(),
@@ -77,8 +77,8 @@ impl<'a, K: Kind> Sheet<'a, K> {
     pub fn open(plan: &'a Plan, names: &'a [K]) -> Sheet<'a, K>
         ensures plan { result.plan.now ≡ plan.now }
         ensures names { result.names.now ≡ names.now }
-        ensures empty { stands_on text result ≡ [] }
-        ensures begun { Begins (ground_of text result) (stands_on text result) }
+        ensures empty { stands_on K.text result ≡ [] }
+        ensures begun { Begins (ground_of K.text result) (stands_on K.text result) }
     {
         Sheet {
             plan,
@@ -97,9 +97,9 @@ impl<'a, K: Kind> Sheet<'a, K> {
     ) -> Result<(), Refusal>
         ensures plan { self.new.plan ≡ self.old.plan }
         ensures names { self.new.names ≡ self.old.names }
-        ensures answer { Stamps (ground_of text self.old) (stands_on text self.old) (text name) (lack (length (ground_of text self.old).texts) (length numbers.old) (length amounts.old)) result }
-        ensures after { StandsThen (ground_of text self.old) (stands_on text self.old) (text name) (lack (length (ground_of text self.old).texts) (length numbers.old) (length amounts.old)) (stands_on text self.new) }
-        ensures begun { Begins (ground_of text self.old) (stands_on text self.old) → Begins (ground_of text self.old) (stands_on text self.new) }
+        ensures answer { Stamps (ground_of K.text self.old) (stands_on K.text self.old) (K.text name) (lack (length (ground_of K.text self.old).texts) (length numbers.old) (length amounts.old)) result }
+        ensures after { StandsThen (ground_of K.text self.old) (stands_on K.text self.old) (K.text name) (lack (length (ground_of K.text self.old).texts) (length numbers.old) (length amounts.old)) (stands_on K.text self.new) }
+        ensures begun { Begins (ground_of K.text self.old) (stands_on K.text self.old) → Begins (ground_of K.text self.old) (stands_on K.text self.new) }
     {
         if let Some(n) = short(self.names.len(), numbers.len(), amounts.len()) {
             return Err(Refusal::Short(n));
@@ -133,9 +133,9 @@ impl<'a, K: Kind> Sheet<'a, K> {
     pub fn strike(&mut self) -> Result<(), Refusal>
         ensures plan { self.new.plan ≡ self.old.plan }
         ensures names { self.new.names ≡ self.old.names }
-        ensures answer { Strikes (stands_on text self.old) result }
-        ensures after { stands_on text self.new ≡ struck (stands_on text self.old) }
-        ensures begun { Begins (ground_of text self.old) (stands_on text self.old) → Begins (ground_of text self.old) (stands_on text self.new) }
+        ensures answer { Strikes (stands_on K.text self.old) result }
+        ensures after { stands_on K.text self.new ≡ struck (stands_on K.text self.old) }
+        ensures begun { Begins (ground_of K.text self.old) (stands_on K.text self.old) → Begins (ground_of K.text self.old) (stands_on K.text self.new) }
     {
         if self.count == 0 {
             return Err(Refusal::NoStamp);
@@ -151,7 +151,7 @@ impl<'a, K: Kind> Sheet<'a, K> {
         numbers: &mut [u16],
         amounts: &mut [S],
     ) -> Result<usize, Refusal>
-        ensures answer { ListsNext (ground_of text self.now) (stands_on text self.now) (lack_list (length (ground_of text self.now).texts) (length list.old) (length numbers.old) (length amounts.old)) (listed result list.new) }
+        ensures answer { ListsNext (ground_of K.text self.now) (stands_on K.text self.now) (lack_list (length (ground_of K.text self.now).texts) (length list.old) (length numbers.old) (length amounts.old)) (listed result list.new) }
         ensures kept { Keeps result list.old list.new }
     {
         if let Some(n) = short_list(self.names.len(), list.len(), numbers.len(), amounts.len()) {
@@ -178,7 +178,7 @@ impl<'a, K: Kind> Sheet<'a, K> {
         numbers: &mut [u16],
         amounts: &mut [S],
     ) -> Result<(u16, u16), Refusal>
-        ensures { Tells (ground_of text self.now) (stands_on text self.now) (lack (length (ground_of text self.now).texts) (length numbers.old) (length amounts.old)) result }
+        ensures { Tells (ground_of K.text self.now) (stands_on K.text self.now) (lack (length (ground_of K.text self.now).texts) (length numbers.old) (length amounts.old)) result }
     {
         if let Some(n) = short(self.names.len(), numbers.len(), amounts.len()) {
             return Err(Refusal::Short(n));
@@ -200,7 +200,7 @@ impl<'a, K: Kind> Sheet<'a, K> {
 
     /// The join of the amounts of all readings of the standing stamps, in one scale.
     pub fn amount<S: Scale>(&self, numbers: &mut [u16], amounts: &mut [S]) -> Result<S, Refusal>
-        ensures { Weighs value join start extend (ground_of text self.now) (stands_on text self.now) (lack (length (ground_of text self.now).texts) (length numbers.old) (length amounts.old)) result }
+        ensures { Weighs S.value S.join S.start S.extend (ground_of K.text self.now) (stands_on K.text self.now) (lack (length (ground_of K.text self.now).texts) (length numbers.old) (length amounts.old)) result }
     {
         if let Some(n) = short(self.names.len(), numbers.len(), amounts.len()) {
             return Err(Refusal::Short(n));
@@ -227,7 +227,7 @@ impl<'a, K: Kind> Sheet<'a, K> {
         numbers: &mut [u16],
         amounts: &mut [S],
     ) -> Result<usize, Refusal>
-        ensures answer { GivesFirst (ground_of text self.now) (stands_on text self.now) (lack_list (length (ground_of text self.now).texts) (length list.old) (length numbers.old) (length amounts.old)) (listed result list.new) }
+        ensures answer { GivesFirst (ground_of K.text self.now) (stands_on K.text self.now) (lack_list (length (ground_of K.text self.now).texts) (length list.old) (length numbers.old) (length amounts.old)) (listed result list.new) }
         ensures kept { Keeps result list.old list.new }
     {
         if let Some(n) = short_list(self.names.len(), list.len(), numbers.len(), amounts.len()) {

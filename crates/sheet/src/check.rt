@@ -15,7 +15,7 @@ use text::Kind;
 // Whether a stamp fits the leaf with this number, if there is one.
 fn fits_leaf<K: Kind>(leaves: &[Leaf], names: &[K], l: usize, stamp: &K) -> bool
     requires { All (λ l. IfSome l.name (λ n. n < length names.now)) leaves.now }
-    ensures { result ≡ fits_number (map text names.now) leaves.now (text stamp.now) l }
+    ensures { result ≡ fits_number (map K.text names.now) leaves.now (K.text stamp.now) l }
 {
     l < leaves.len() && fits(&leaves[l], names, stamp)
 }
@@ -31,7 +31,7 @@ fn is_way<K: Kind>(
 ) -> bool
     requires ready { Searchable rows (length names.now) leaves.now moves.now }
     requires even { length list.now ≡ length stamps.now }
-    ensures { Decides result (Way moves.now (stamped (map text names.now) leaves.now (map text stamps.now)) (length stamps.now) (rows - 1) (reverse list.now)) }
+    ensures { Decides result (Way moves.now (stamped (map K.text names.now) leaves.now (map K.text stamps.now)) (length stamps.now) (rows - 1) (reverse list.now)) }
 {
     let mut here = first_rows(moves, rows);
     for i in 0..stamps.len() {
@@ -53,7 +53,7 @@ impl<'a, K: Kind> Sheet<'a, K> {
         numbers: &mut [u16],
         amounts: &mut [S],
     ) -> Result<bool, Refusal>
-        ensures { Checks (ground_of text self.now) (map text stamps.now) leaves.now (lack (length (ground_of text self.now).texts) (length numbers.old) (length amounts.old)) result }
+        ensures { Checks (ground_of K.text self.now) (map K.text stamps.now) leaves.now (lack (length (ground_of K.text self.now).texts) (length numbers.old) (length amounts.old)) result }
     {
         if let Some(n) = short(self.names.len(), numbers.len(), amounts.len()) {
             return Err(Refusal::Short(n));

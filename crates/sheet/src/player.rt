@@ -41,7 +41,7 @@ pub fn play<'x, K: Kind, S: Scale>(
     amounts: &mut [S],
     log: &mut Vec<Turn<K, S>>,
 ) -> Result<(), Stop>
-    ensures { Played (desk text value join start extend (ground_over text plan.now names.now)) (fitted (length list.old) (length numbers.old) (length amounts.old)) calls.now log.old.items log.new.items (is_ok result) }
+    ensures { Played (desk K.text S.value S.join S.start S.extend (ground_over K.text plan.now names.now)) (fitted (length list.old) (length numbers.old) (length amounts.old)) calls.now log.old.items log.new.items (is_ok result) }
 {
     let mut player = Player { calls, at: 0 };
     serve(

@@ -30,7 +30,7 @@ fn list_next<K: Kind, S: Scale>(
     numbers: &mut [u16],
     amounts: &mut [S],
 ) -> Result<Listing, Refusal>
-    ensures { ListsNext (ground_of text sheet.now) (stands_on text sheet.now) (lack_list (length (ground_of text sheet.now).texts) (length list.old) (length numbers.old) (length amounts.old)) (listing result) }
+    ensures { ListsNext (ground_of K.text sheet.now) (stands_on K.text sheet.now) (lack_list (length (ground_of K.text sheet.now).texts) (length list.old) (length numbers.old) (length amounts.old)) (listing result) }
 {
     match sheet.next(list, numbers, amounts) {
         Ok(n) => Ok(copied(list, n)),
@@ -45,7 +45,7 @@ fn list_reading<K: Kind, S: Scale>(
     numbers: &mut [u16],
     amounts: &mut [S],
 ) -> Result<Listing, Refusal>
-    ensures { GivesFirst (ground_of text sheet.now) (stands_on text sheet.now) (lack_list (length (ground_of text sheet.now).texts) (length list.old) (length numbers.old) (length amounts.old)) (listing result) }
+    ensures { GivesFirst (ground_of K.text sheet.now) (stands_on K.text sheet.now) (lack_list (length (ground_of K.text sheet.now).texts) (length list.old) (length numbers.old) (length amounts.old)) (listing result) }
 {
     match sheet.reading(list, numbers, amounts) {
         Ok(n) => Ok(copied(list, n)),
@@ -65,8 +65,8 @@ pub fn put_stamp<K: Kind, S: Scale>(
     ensures plan { sheet.new.plan ≡ sheet.old.plan }
     ensures names { sheet.new.names ≡ sheet.old.names }
     ensures called { result.call ≡ Stamp name lent }
-    ensures right { Right (desk text value join start extend (ground_of text sheet.old)) (stands_on text sheet.old) result.call result.answer }
-    ensures after { After (desk text value join start extend (ground_of text sheet.old)) (stands_on text sheet.old) result.call (stands_on text sheet.new) }
+    ensures right { Right (desk K.text S.value S.join S.start S.extend (ground_of K.text sheet.old)) (stands_on K.text sheet.old) result.call result.answer }
+    ensures after { After (desk K.text S.value S.join S.start S.extend (ground_of K.text sheet.old)) (stands_on K.text sheet.old) result.call (stands_on K.text sheet.new) }
 {
     let n = lent.numbers;
     let a = lent.amounts;
@@ -80,8 +80,8 @@ pub fn put_strike<K: Kind, S: Scale>(sheet: &mut Sheet<K>) -> Turn<K, S>
     ensures plan { sheet.new.plan ≡ sheet.old.plan }
     ensures names { sheet.new.names ≡ sheet.old.names }
     ensures called { result.call ≡ Strike }
-    ensures right { Right (desk text value join start extend (ground_of text sheet.old)) (stands_on text sheet.old) result.call result.answer }
-    ensures after { After (desk text value join start extend (ground_of text sheet.old)) (stands_on text sheet.old) result.call (stands_on text sheet.new) }
+    ensures right { Right (desk K.text S.value S.join S.start S.extend (ground_of K.text sheet.old)) (stands_on K.text sheet.old) result.call result.answer }
+    ensures after { After (desk K.text S.value S.join S.start S.extend (ground_of K.text sheet.old)) (stands_on K.text sheet.old) result.call (stands_on K.text sheet.new) }
 {
     let answer = Answer::Struck(sheet.strike());
     let call = Call::Strike;
@@ -98,7 +98,7 @@ pub fn put_next<K: Kind, S: Scale>(
 ) -> Turn<K, S>
     requires { (lent.list ≤ length list.old) × ((lent.numbers ≤ length numbers.old) × (lent.amounts ≤ length amounts.old)) }
     ensures called { result.call ≡ Next lent }
-    ensures right { Right (desk text value join start extend (ground_of text sheet.now)) (stands_on text sheet.now) result.call result.answer }
+    ensures right { Right (desk K.text S.value S.join S.start S.extend (ground_of K.text sheet.now)) (stands_on K.text sheet.now) result.call result.answer }
 {
     let l = lent.list;
     let n = lent.numbers;
@@ -123,7 +123,7 @@ pub fn put_distance<K: Kind, S: Scale>(
 ) -> Turn<K, S>
     requires { (lent.numbers ≤ length numbers.old) × (lent.amounts ≤ length amounts.old) }
     ensures called { result.call ≡ Distance lent }
-    ensures right { Right (desk text value join start extend (ground_of text sheet.now)) (stands_on text sheet.now) result.call result.answer }
+    ensures right { Right (desk K.text S.value S.join S.start S.extend (ground_of K.text sheet.now)) (stands_on K.text sheet.now) result.call result.answer }
 {
     let n = lent.numbers;
     let a = lent.amounts;
@@ -141,7 +141,7 @@ pub fn put_amount<K: Kind, S: Scale>(
 ) -> Turn<K, S>
     requires { (lent.numbers ≤ length numbers.old) × (lent.amounts ≤ length amounts.old) }
     ensures called { result.call ≡ Amount lent }
-    ensures right { Right (desk text value join start extend (ground_of text sheet.now)) (stands_on text sheet.now) result.call result.answer }
+    ensures right { Right (desk K.text S.value S.join S.start S.extend (ground_of K.text sheet.now)) (stands_on K.text sheet.now) result.call result.answer }
 {
     let n = lent.numbers;
     let a = lent.amounts;
@@ -160,7 +160,7 @@ pub fn put_reading<K: Kind, S: Scale>(
 ) -> Turn<K, S>
     requires { (lent.list ≤ length list.old) × ((lent.numbers ≤ length numbers.old) × (lent.amounts ≤ length amounts.old)) }
     ensures called { result.call ≡ Reading lent }
-    ensures right { Right (desk text value join start extend (ground_of text sheet.now)) (stands_on text sheet.now) result.call result.answer }
+    ensures right { Right (desk K.text S.value S.join S.start S.extend (ground_of K.text sheet.now)) (stands_on K.text sheet.now) result.call result.answer }
 {
     let l = lent.list;
     let n = lent.numbers;

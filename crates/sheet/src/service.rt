@@ -58,8 +58,8 @@ pub fn put<K: Kind, S: Scale>(
     ensures plan { sheet.new.plan ≡ sheet.old.plan }
     ensures names { sheet.new.names ≡ sheet.old.names }
     ensures called { result.call ≡ fitted (length list.old) (length numbers.old) (length amounts.old) call }
-    ensures right { Right (desk text value join start extend (ground_of text sheet.old)) (stands_on text sheet.old) result.call result.answer }
-    ensures after { After (desk text value join start extend (ground_of text sheet.old)) (stands_on text sheet.old) result.call (stands_on text sheet.new) }
+    ensures right { Right (desk K.text S.value S.join S.start S.extend (ground_of K.text sheet.old)) (stands_on K.text sheet.old) result.call result.answer }
+    ensures after { After (desk K.text S.value S.join S.start S.extend (ground_of K.text sheet.old)) (stands_on K.text sheet.old) result.call (stands_on K.text sheet.new) }
 {
     let lent = cut_down(lengths(&call), list.len(), numbers.len(), amounts.len());
     match call {
@@ -84,7 +84,7 @@ pub fn serve<'x, K: Kind, S: Scale, C: Clerk<K, S>>(
     amounts: &mut [S],
     log: &mut Vec<Turn<K, S>>,
 ) -> Result<(), Stop>
-    ensures served { Served (desk text value join start extend (ground_over text plan.now names.now)) asks (fitted (length list.old) (length numbers.old) (length amounts.old)) clerk.old turns log.old.items log.new.items (is_ok result) }
+    ensures served { Served (desk K.text S.value S.join S.start S.extend (ground_over K.text plan.now names.now)) C.asks (fitted (length list.old) (length numbers.old) (length amounts.old)) clerk.old turns log.old.items log.new.items (is_ok result) }
     ensures stops { OnErr result (vec_capacity log.old < vec_len log.old + turns) }
 {
     let mut sheet = Sheet::open(plan, names);

@@ -25,7 +25,7 @@ const FULL: Lengths = Lengths {
 
 // What a stamp of a text asks.
 fn stamp_of<K: Kind>(name: &[u8]) -> Request<K>
-    ensures { Asks text has (stamp_line name.now) result }
+    ensures { Asks K.text K.has (stamp_line name.now) result }
 {
     match K::of_text(name) {
         Some(name) => Request::For(Call::Stamp(name, FULL)),
@@ -35,7 +35,7 @@ fn stamp_of<K: Kind>(name: &[u8]) -> Request<K>
 
 /// What a line asks.
 pub fn request_of<K: Kind>(line: &[u8]) -> Request<K>
-    ensures { Asks text has line.now result }
+    ensures { Asks K.text K.has line.now result }
 {
     if line.len() == 0 {
         return Request::Nothing;

@@ -9,7 +9,7 @@ use text::Kind;
 
 /// The first call that a line of a text asks for, from a place on, and where the next line begins.
 pub fn next_call<K: Kind>(text: &[u8], from: usize) -> Option<(Call<K>, usize)>
-    ensures { Finds K.Kind.text has text.now from result }
+    ensures { Finds K.Kind.text K.has text.now from result }
 {
     let mut at = from;
     while let Some(line) = line_at(text, at) {
@@ -23,7 +23,7 @@ pub fn next_call<K: Kind>(text: &[u8], from: usize) -> Option<(Call<K>, usize)>
 
 /// How many calls the lines of a text ask for, from a place on.
 pub fn count_calls<K: Kind>(text: &[u8], from: usize) -> usize
-    ensures { Counted K.Kind.text has text.now from result }
+    ensures { Counted K.Kind.text K.has text.now from result }
 {
     let mut at = from;
     let mut count = 0;

@@ -20,7 +20,7 @@ pub fn serve_lines<'x, K: Kind, S: Scale>(
     amounts: &mut [S],
     turns: &mut Vec<Turn<K, S>>,
 ) -> Result<(), Stop>
-    ensures { Lines-served (desk text value join start extend (ground_over text plan.now names.now)) has (fitted (length list.old) (length numbers.old) (length amounts.old)) input.now from turns.old.items turns.new.items (is_ok result) }
+    ensures { Lines-served (desk K.text S.value S.join S.start S.extend (ground_over K.text plan.now names.now)) K.has (fitted (length list.old) (length numbers.old) (length amounts.old)) input.now from turns.old.items turns.new.items (is_ok result) }
 {
     let count = count_calls::<K>(input, from);
     let mut script = Script::new(input, from);

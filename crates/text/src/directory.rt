@@ -14,7 +14,7 @@ pub enum Entry {
 
 /// Where among the names the text of this one stands first.
 pub fn find<K: Kind>(names: &[K], name: &K) -> Option<usize>
-    ensures { Finds (map text names.now) (text name.now) result }
+    ensures { Finds (map K.text names.now) (K.text name.now) result }
 {
     for (i, x) in names.iter().enumerate() {
         if x.same(name) {
@@ -27,7 +27,7 @@ pub fn find<K: Kind>(names: &[K], name: &K) -> Option<usize>
 /// Puts a name to the directory that the first `len` names of a buffer are: a new one is written behind them.
 /// `None` where it is new and there is no room; the buffer then stays as it was.
 pub fn add<K: Kind>(names: &mut [K], len: usize, name: K) -> Option<Entry>
-    ensures { Adds text names.old names.new len name result }
+    ensures { Adds K.text names.old names.new len name result }
 {
     let count = len.min(names.len());
     if let Some(i) = find(&names[0..count], &name) {
@@ -43,7 +43,7 @@ pub fn add<K: Kind>(names: &mut [K], len: usize, name: K) -> Option<Entry>
 /// Writes the distinct names of a list to the front of a buffer, in the order in which they come first,
 /// and answers how many there are. `None` where there is no room for all: the buffer is then full of the first ones.
 pub fn gather<K: Kind>(list: &[K], names: &mut [K]) -> Option<usize>
-    ensures { Gathers text list.now names.old names.new result }
+    ensures { Gathers K.text list.now names.old names.new result }
 {
     let mut len = 0;
     for x in list {
