@@ -8,9 +8,9 @@ returns-in-Ok g c =
     let j = c.in-Ok.judgement in
     prints g.K.Kind.text g.K.Kind.has _ _ c.judge.new.names c.judge.new.plan _ c.judge.new.reading _ c.judge.new.next _ (Ok j)
     (judgement_bytes c.judge.new.reading (map g.K.Kind.text c.judge.new.names) c.judge.new.next j)
-    c.in-Ok.ensures.answer refl c.args.out.now c.write-judgement.new.out c.write-judgement.result c.write-judgement.ensures
+    c.in-Ok.ensures.answer refl c.args.out.now c.write_judgement.new.out c.write_judgement.result c.write_judgement.ensures
 
 pub returns-in-Refused : goal.returns-in-Refused
 returns-in-Refused g c =
     prints_refused g.K.Kind.text g.K.Kind.has _ _ c.judge.new.names c.judge.new.plan _ c.judge.new.reading _ c.judge.new.next _ c.in-Err.error c.in-Refused.refusal
-    c.in-Refused.is c.in-Err.ensures.answer c.args.out.now c.write-refusal.new.out c.write-refusal.result c.write-refusal.ensures
+    c.in-Refused.is c.in-Err.ensures.answer c.args.out.now c.write_refusal.new.out c.write_refusal.result c.write_refusal.ensures

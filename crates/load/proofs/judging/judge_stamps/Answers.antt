@@ -8,8 +8,8 @@ use Rattle.load.proofs.Lending.{enough_for}
 use Rattle.load.proofs.Takings.{same_ground, opened_ground, answers_moved}
 use Rattle.load.proofs.judging.judge_stamps.Goals as goal
 
-pub stamp-lines-requires : goal.stamp-lines-requires
-stamp-lines-requires g c =
+pub stamp_lines-requires : goal.stamp_lines-requires
+stamp_lines-requires g c =
     let o = c.open-sheet.ensures in
     let e = enough_for g.K.Kind.text _ _ (length c.args.reading.now) (length c.args.next.now) (length c.args.numbers.now) _ (length c.args.amounts.now) _ o.names refl refl c.requires in
     record { enough = e.calls; empty = o.empty; begun = o.begun }
@@ -41,6 +41,6 @@ returns-in-Ok g c =
     let first = opened_ground text c.open-sheet.result _ _ o.plan o.names in
     let last = same_ground text s c.open-sheet.result a.plan a.names ∙ first in
     let lines = stamp_lines c.args.file.now c.args.opening.frame in
-    let there = ap (λ b. lines_at c.args.opening.frame.stamps (drop c.args.opening.frame.stamps b)) c.body-of.ensures in
+    let there = ap (λ b. lines_at c.args.opening.frame.stamps (drop c.args.opening.frame.stamps b)) c.body_of.ensures in
     let taken = subst (λ k. Taken has k lines) first (subst (λ xs. Taken has (ground_of text c.open-sheet.result) xs) there a.answer.0) in
     (taken, answers_moved _ _ _ _ _ _ _ _ _ last (a.answer.1 ∙ ap texts_of there) c.answers.ensures.answers, c.answers.ensures.counts)

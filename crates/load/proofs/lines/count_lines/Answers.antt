@@ -20,11 +20,11 @@ loop-line-preserved c =
 pub returns-then-at-body : goal.returns-then-at-body
 returns-then-at-body c =
     let i = c.loop-line.invariant in
-    walked_unfilled c.args.body.now c.args.from i.1.0 c.loop-line.at c.in-default.ensures c.if-at-body.true i.1.1
+    walked_unfilled c.args.body.now c.args.from i.1.0 c.loop-line.at c.in_default.ensures c.if-at-body.true i.1.1
 
 pub returns : goal.returns
 returns c =
     let i = c.loop-line.invariant in (
-      walked_filled c.args.body.now c.args.from i.1.0 c.loop-line.at c.in-default.ensures c.if-at-body.false i.1.1,
-      i.1.2 ∙ sym (ap length (walked_all c.args.body.now c.args.from i.1.0 c.loop-line.at c.in-default.ensures i.1.1)),
+      walked_filled c.args.body.now c.args.from i.1.0 c.loop-line.at c.in_default.ensures c.if-at-body.false i.1.1,
+      i.1.2 ∙ sym (ap length (walked_all c.args.body.now c.args.from i.1.0 c.loop-line.at c.in_default.ensures i.1.1)),
     )

@@ -8,9 +8,9 @@ pub returns-then-at-body : goal.returns-then-at-body
 returns-then-at-body c = ap (lines_at c.args.at) (drop_all c.args.at c.args.body.now c.if-at-body.true)
 
 pub returns-then-end-body : goal.returns-then-end-body
-returns-then-end-body c = none_left c.args.body.now c.args.at c.feed-from-end.result c.feed-from-end.ensures c.if-end-body.true
+returns-then-end-body c = none_left c.args.body.now c.args.at c.feed_from-end.result c.feed_from-end.ensures c.if-end-body.true
 
 pub returns : goal.returns
 returns c =
-    let s = stands_line c.args.body.now c.args.at c.feed-from-end.result c.feed-from-end.ensures c.if-end-body.false in
+    let s = stands_line c.args.body.now c.args.at c.feed_from-end.result c.feed_from-end.ensures c.if-end-body.false in
     (refl, s.bytes, s.long, omega (arith, c.if-end-body.false), s.first)

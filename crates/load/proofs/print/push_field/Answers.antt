@@ -3,4 +3,4 @@ use Rattle.load.proofs.Appending.{then_more}
 use Rattle.load.proofs.print.push_field.Goals as goal
 
 pub returns : goal.returns
-returns c = then_more (32 ∷ []) (decimal c.args.n) c.args.out.now c.push-text.new.out c.push-number.new.out c.push-number.result c.in-ok-push-text.ensures c.push-number.ensures
+returns c = then_more (32 ∷ []) (decimal c.args.n) c.args.out.now c.push_text.new.out c.push_number.new.out c.push_number.result c.in_ok-push_text.ensures c.push_number.ensures

@@ -4,16 +4,16 @@ use Rattle.load.specs.Printed.{Put, Lacks, field}
 use Rattle.load.proofs.Appending.{put_more, put_all, stopped_all}
 use Rattle.load.proofs.print.push_list.Goals as goal
 
-pub returns-in-err-push-field : goal.returns-in-err-push-field
-returns-in-err-push-field c =
-    let p = err_from_is_err_and c.from-residual.result c.from-residual.ensures.1 in
-    stopped_all field c.args.out.now c.loop-n.out c.push-field.new.out c.args.list.now c.loop-n.n-index c.from-residual.result p.0 p.1
-    c.loop-n-test.true c.loop-n.invariant (subst (λ n. Lacks (field n) c.loop-n.out) c.from.ensures c.in-err-push-field.ensures)
+pub returns-in_err-push_field : goal.returns-in_err-push_field
+returns-in_err-push_field c =
+    let p = err_from_is_err_and c.from_residual.result c.from_residual.ensures.1 in
+    stopped_all field c.args.out.now c.loop-n.out c.push_field.new.out c.args.list.now c.loop-n.n-index c.from_residual.result p.0 p.1
+    c.loop-n-test.true c.loop-n.invariant (subst (λ n. Lacks (field n) c.loop-n.out) c.from.ensures c.in_err-push_field.ensures)
 
 pub loop-n-preserved : goal.loop-n-preserved
 loop-n-preserved c =
-    put_more field c.args.out.now c.loop-n.out c.push-field.new.out c.args.list.now c.loop-n.n-index
-    c.loop-n-test.true c.loop-n.invariant (subst (λ n. Put (field n) c.loop-n.out c.push-field.new.out) c.from.ensures c.in-ok-push-field.ensures)
+    put_more field c.args.out.now c.loop-n.out c.push_field.new.out c.args.list.now c.loop-n.n-index
+    c.loop-n-test.true c.loop-n.invariant (subst (λ n. Put (field n) c.loop-n.out c.push_field.new.out) c.from.ensures c.in_ok-push_field.ensures)
 
 pub returns : goal.returns
 returns c = put_all field c.args.out.now c.loop-n.out c.args.list.now c.loop-n.n-index c.loop-n-test.false c.loop-n.invariant

@@ -5,7 +5,7 @@ use Rattle.engine.specs.Scales.{bays_of}
 use Rattle.load.specs.Printed.{Put, Lacks, field, members}
 use Rattle.load.proofs.Members.{put_no_member, put_member, put_other, lacks_members}
 use Rattle.load.proofs.report.push_bays.Goals as goal
-use Rattle.load.proofs.report.push_bays.Goals.{then-holds+in-ok-push-field, else-holds}
+use Rattle.load.proofs.report.push_bays.Goals.{then-holds+in_ok-push_field, else-holds}
 
 pub loop-bay-init : goal.loop-bay-init
 loop-bay-init c = put_no_member field (bays_of c.args.bays.now) c.args.out.now
@@ -16,19 +16,19 @@ loop-bay-preserved c =
     let x = c.args.out.now in
     let n = c.loop-bay.bay in
     elim c.if-holds.branch [
-      | then-holds+in-ok-push-field w ↦
+      | then-holds+in_ok-push_field w ↦
           subst (Put (flat_map field (members set (n + 1))) x) (sym w.out-is)
-          (put_member field set n x c.loop-bay.out w.push-field.new.out (sym c.holds.ensures ∙ w.if-holds.true) c.loop-bay.invariant
-          (subst (λ k. Put (field k) c.loop-bay.out w.push-field.new.out) w.from.ensures w.in-ok-push-field.ensures))
+          (put_member field set n x c.loop-bay.out w.push_field.new.out (sym c.holds.ensures ∙ w.if-holds.true) c.loop-bay.invariant
+          (subst (λ k. Put (field k) c.loop-bay.out w.push_field.new.out) w.from.ensures w.in_ok-push_field.ensures))
       | else-holds w ↦
           subst (Put (flat_map field (members set (n + 1))) x) (sym w.out-is) (put_other field set n x c.loop-bay.out (sym c.holds.ensures ∙ w.if-holds.false) c.loop-bay.invariant)
     ]
 
-pub returns-in-err-push-field : goal.returns-in-err-push-field
-returns-in-err-push-field c =
-    let p = err_from_is_err_and c.from-residual.result c.from-residual.ensures.1 in
-    lacks_members field (bays_of c.args.bays.now) c.loop-bay.bay 64 c.args.out.now c.loop-bay.out c.push-field.new.out c.from-residual.result p.0 p.1
-    c.loop-bay-test.true (sym c.holds.ensures ∙ c.if-holds.true) c.loop-bay.invariant (subst (λ k. Lacks (field k) c.loop-bay.out) c.from.ensures c.in-err-push-field.ensures)
+pub returns-in_err-push_field : goal.returns-in_err-push_field
+returns-in_err-push_field c =
+    let p = err_from_is_err_and c.from_residual.result c.from_residual.ensures.1 in
+    lacks_members field (bays_of c.args.bays.now) c.loop-bay.bay 64 c.args.out.now c.loop-bay.out c.push_field.new.out c.from_residual.result p.0 p.1
+    c.loop-bay-test.true (sym c.holds.ensures ∙ c.if-holds.true) c.loop-bay.invariant (subst (λ k. Lacks (field k) c.loop-bay.out) c.from.ensures c.in_err-push_field.ensures)
 
 pub returns : goal.returns
 returns c =

@@ -6,18 +6,18 @@ use Rattle.load.specs.Printed.{field, members}
 use Rattle.load.proofs.Appending.{then_more, lacks_more, lacks_later, stop}
 use Rattle.load.proofs.report.write_bays.Goals as goal
 
-pub returns-in-err-push-bays : goal.returns-in-err-push-bays
-returns-in-err-push-bays c =
+pub returns-in_err-push_bays : goal.returns-in_err-push_bays
+returns-in_err-push_bays c =
     let texts = flat_map field (members (bays_of c.args.bays.now) 64) in
-    let p = err_from_is_err_and c.from-residual-in-err-push-bays.result c.from-residual-in-err-push-bays.ensures.1 in
-    stop _ c.args.out.now c.push-bays.new.out c.from-residual-in-err-push-bays.result p.0 p.1
-    (lacks_later (codes "bays") (texts ++ (10 ∷ [])) c.args.out.now c.push-text.new.out c.in-ok-push-text.ensures
-    (lacks_more texts (10 ∷ []) c.push-text.new.out c.in-err-push-bays.ensures))
+    let p = err_from_is_err_and c.from_residual-in_err-push_bays.result c.from_residual-in_err-push_bays.ensures.1 in
+    stop _ c.args.out.now c.push_bays.new.out c.from_residual-in_err-push_bays.result p.0 p.1
+    (lacks_later (codes "bays") (texts ++ (10 ∷ [])) c.args.out.now c.push_text.new.out c.in_ok-push_text.ensures
+    (lacks_more texts (10 ∷ []) c.push_text.new.out c.in_err-push_bays.ensures))
 
 pub returns : goal.returns
 returns c =
     let texts = flat_map field (members (bays_of c.args.bays.now) 64) in
-    then_more (codes "bays") (texts ++ (10 ∷ [])) c.args.out.now c.push-text.new.out c.push-text-2.new.out c.push-text-2.result
-    c.in-ok-push-text.ensures
-    (then_more texts (10 ∷ []) c.push-text.new.out c.push-bays.new.out c.push-text-2.new.out c.push-text-2.result
-    c.in-ok-push-bays.ensures c.push-text-2.ensures)
+    then_more (codes "bays") (texts ++ (10 ∷ [])) c.args.out.now c.push_text.new.out c.push_text-2.new.out c.push_text-2.result
+    c.in_ok-push_text.ensures
+    (then_more texts (10 ∷ []) c.push_text.new.out c.push_bays.new.out c.push_text-2.new.out c.push_text-2.result
+    c.in_ok-push_bays.ensures c.push_text-2.ensures)

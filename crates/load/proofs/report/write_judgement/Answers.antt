@@ -4,17 +4,17 @@ use Rattle.load.specs.Printed.{report_bytes, next_line}
 use Rattle.load.proofs.Appending.{then_more, stopped, retold}
 use Rattle.load.proofs.report.write_judgement.Goals as goal
 
-pub returns-in-err-write-report : goal.returns-in-err-write-report
-returns-in-err-write-report g c =
+pub returns-in_err-write_report : goal.returns-in_err-write_report
+returns-in_err-write_report g c =
     let j = c.args.judgement.now in
     let texts = map g.K.Kind.text c.args.names.now in
-    let p = err_from_is_err_and c.from-residual.result c.from-residual.ensures.1 in
-    stopped (report_bytes c.args.reading.now j) (next_line texts (take j.next c.args.next.now)) c.args.out.now c.write-report.new.out c.from-residual.result p.0 p.1 c.in-err-write-report.ensures
+    let p = err_from_is_err_and c.from_residual.result c.from_residual.ensures.1 in
+    stopped (report_bytes c.args.reading.now j) (next_line texts (take j.next c.args.next.now)) c.args.out.now c.write_report.new.out c.from_residual.result p.0 p.1 c.in_err-write_report.ensures
 
 pub returns : goal.returns
 returns g c =
     let j = c.args.judgement.now in
     let texts = map g.K.Kind.text c.args.names.now in
-    then_more (report_bytes c.args.reading.now j) (next_line texts (take j.next c.args.next.now)) c.args.out.now c.write-report.new.out c.write-next.new.out c.write-next.result
-    c.in-ok-write-report.ensures
-    (retold _ _ c.write-report.new.out c.write-next.new.out c.write-next.result (ap (next_line texts) (sym c.front.ensures)) c.write-next.ensures)
+    then_more (report_bytes c.args.reading.now j) (next_line texts (take j.next c.args.next.now)) c.args.out.now c.write_report.new.out c.write_next.new.out c.write_next.result
+    c.in_ok-write_report.ensures
+    (retold _ _ c.write_report.new.out c.write_next.new.out c.write_next.result (ap (next_line texts) (sym c.front.ensures)) c.write_next.ensures)

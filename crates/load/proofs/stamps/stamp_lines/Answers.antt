@@ -21,9 +21,9 @@ loop-line-preserved g c =
     let u = c.in-Some.line.text.now in
     let at = c.loop-line.at in
     let done = i.2.0 in
-    let is = c.in-Some-of-text.ensures in
-    let known : g.K.Kind.has u ≡ true = subst (λ t. g.K.Kind.has t ≡ true) is (g.met.K.Kind.named c.in-Some-of-text.name) in
-    let p = put_to g.K.Kind.text c.loop-line.sheet c.args.sheet.now c.in-Some-of-text.name u _ _ _ _ done i.0 i.1 c.loop-line.auto.numbers c.loop-line.auto.amounts c.requires.enough i.2.3 is in (
+    let is = c.in-Some-of_text.ensures in
+    let known : g.K.Kind.has u ≡ true = subst (λ t. g.K.Kind.has t ≡ true) is (g.met.K.Kind.named c.in-Some-of_text.name) in
+    let p = put_to g.K.Kind.text c.loop-line.sheet c.args.sheet.now c.in-Some-of_text.name u _ _ _ _ done i.0 i.1 c.loop-line.auto.numbers c.loop-line.auto.amounts c.requires.enough i.2.3 is in (
       e.plan ∙ i.0,
       e.names ∙ i.1,
       (
@@ -36,8 +36,8 @@ loop-line-preserved g c =
       omega (arith, n.2, i.3),
     )
 
-pub overflow-add-count : goal.overflow-add-count
-overflow-add-count g c =
+pub overflow_add-count : goal.overflow_add-count
+overflow_add-count g c =
     let n = c.in-Some.ensures in
     omega (arith, n.2, n.3, c.loop-line.invariant.3)
 
@@ -49,9 +49,9 @@ returns-in-Err g c =
     let u = c.in-Some.line.text.now in
     let at = c.loop-line.at in
     let done = i.2.0 in
-    let is = c.in-Some-of-text.ensures in
-    let known : g.K.Kind.has u ≡ true = subst (λ t. g.K.Kind.has t ≡ true) is (g.met.K.Kind.named c.in-Some-of-text.name) in
-    let p = put_to g.K.Kind.text c.loop-line.sheet c.args.sheet.now c.in-Some-of-text.name u _ _ _ _ done i.0 i.1 c.loop-line.auto.numbers c.loop-line.auto.amounts c.requires.enough i.2.3 is in
+    let is = c.in-Some-of_text.ensures in
+    let known : g.K.Kind.has u ≡ true = subst (λ t. g.K.Kind.has t ≡ true) is (g.met.K.Kind.named c.in-Some-of_text.name) in
+    let p = put_to g.K.Kind.text c.loop-line.sheet c.args.sheet.now c.in-Some-of_text.name u _ _ _ _ done i.0 i.1 c.loop-line.auto.numbers c.loop-line.auto.amounts c.requires.enough i.2.3 is in
     let rest = lines_at c.in-Some.line.next (drop c.in-Some.line.next c.args.body.now) in
     record {
       plan = e.plan ∙ i.0;
@@ -62,6 +62,6 @@ returns-in-Err g c =
 pub returns : goal.returns
 returns g c =
     let i = c.loop-line.invariant in
-    let all = sym (walked_all c.args.body.now c.args.from i.2.0 c.loop-line.at c.in-default.ensures i.2.1) in
+    let all = sym (walked_all c.args.body.now c.args.from i.2.0 c.loop-line.at c.in_default.ensures i.2.1) in
     let taken = subst (λ xs. Taken g.K.Kind.has (ground_of g.K.Kind.text c.args.sheet.now) xs) all i.2.2 in
     record { plan = i.0; names = i.1; answer = (taken, i.2.3 ∙ ap texts_of all, i.2.4 ∙ ap length all) }

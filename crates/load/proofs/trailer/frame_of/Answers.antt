@@ -9,8 +9,8 @@ returns-then-len-lt-TRAILER c t e =
       | inr long ↦ omega (arith, long.1, e.short)
     ]
 
-pub returns-in-default : goal.returns-in-default
-returns-in-default c t e = c.in-default.ensures t (last_trailer c.args.file.now t e)
+pub returns-in_default : goal.returns-in_default
+returns-in_default c t e = c.in_default.ensures t (last_trailer c.args.file.now t e)
 
 pub returns-then-fits : goal.returns-then-fits
 returns-then-fits c =

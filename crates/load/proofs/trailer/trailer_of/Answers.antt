@@ -5,19 +5,19 @@ use Rattle.load.proofs.trailer.trailer_of.Goals as goal
 pub returns-then-tail-ne-TRAILER : goal.returns-then-tail-ne-TRAILER
 returns-then-tail-ne-TRAILER c = no_trailer_long c.args.tail.now c.if-tail-ne-TRAILER.true
 
-pub returns-then-not-is-ruled : goal.returns-then-not-is-ruled
-returns-then-not-is-ruled c = no_trailer_ruled c.args.tail.now (sym c.is-ruled.ensures ∙ c.if-not-is-ruled.true)
+pub returns-then-not-is_ruled : goal.returns-then-not-is_ruled
+returns-then-not-is_ruled c = no_trailer_ruled c.args.tail.now (sym c.is_ruled.ensures ∙ c.if-not-is_ruled.true)
 
-pub returns-in-default : goal.returns-in-default
-returns-in-default c = no_trailer_plan c.args.tail.now c.in-default.ensures
+pub returns-in_default : goal.returns-in_default
+returns-in_default c = no_trailer_plan c.args.tail.now c.in_default.ensures
 
-pub returns-in-default-four-digits : goal.returns-in-default-four-digits
-returns-in-default-four-digits c = no_trailer_stamps c.args.tail.now c.in-default-four-digits.ensures
+pub returns-in_default-four_digits : goal.returns-in_default-four_digits
+returns-in_default-four_digits c = no_trailer_stamps c.args.tail.now c.in_default-four_digits.ensures
 
-pub returns-in-default-four-digits-2 : goal.returns-in-default-four-digits-2
-returns-in-default-four-digits-2 c = no_trailer_count c.args.tail.now c.in-default-four-digits-2.ensures
+pub returns-in_default-four_digits-2 : goal.returns-in_default-four_digits-2
+returns-in_default-four_digits-2 c = no_trailer_count c.args.tail.now c.in_default-four_digits-2.ensures
 
 pub returns : goal.returns
 returns c =
-    trailer_from c.args.tail.now c.in-Some.plan c.in-Some-four-digits.stamps c.in-Some-four-digits-2.count (omega arith)
-    (sym c.is-ruled.ensures ∙ c.if-not-is-ruled.false) c.in-Some.ensures c.in-Some-four-digits.ensures c.in-Some-four-digits-2.ensures
+    trailer_from c.args.tail.now c.in-Some.plan c.in-Some-four_digits.stamps c.in-Some-four_digits-2.count (omega arith)
+    (sym c.is_ruled.ensures ∙ c.if-not-is_ruled.false) c.in-Some.ensures c.in-Some-four_digits.ensures c.in-Some-four_digits-2.ensures

@@ -15,27 +15,27 @@ returns-in-Err g c =
     let s : SizedWell (length c.args.names.now) c.args.text.now = record { room = c.if-names-lt128.false; some = omega arith; short = c.if-text-gt2048.false } in
     (judged_refused g.K.Kind.has _ _ c.in-Err.refusal s (subst (λ t. Judges g.K.Kind.has t c.in-Err.refusal) c.new-reader.ensures.text c.in-Err.ensures.judged), refl)
 
-pub returns-in-default : goal.returns-in-default
-returns-in-default g c =
+pub returns-in_default : goal.returns-in_default
+returns-in_default g c =
     let some = c.if-text-eq0.false in
     let s : SizedWell (length c.args.names.now) c.args.text.now = record { room = c.if-names-lt128.false; some = omega arith; short = c.if-text-gt2048.false } in
     let y = subst (λ t. Granted g.K.Kind.has t (drafts_of c.judge.new.reader) c.in-Ok.plan) c.new-reader.ensures.text c.in-Ok.ensures.judged in
     ((y.whole.drawn.shape, drafts_of c.judge.new.reader, granted_accepts _ y.whole.drawn.shape y s refl), refl)
 
-pub returns-in-default-blank-leaves : goal.returns-in-default-blank-leaves
-returns-in-default-blank-leaves g c =
+pub returns-in_default-blank_leaves : goal.returns-in_default-blank_leaves
+returns-in_default-blank_leaves g c =
     let some = c.if-text-eq0.false in
     let s : SizedWell (length c.args.names.now) c.args.text.now = record { room = c.if-names-lt128.false; some = omega arith; short = c.if-text-gt2048.false } in
     let y = subst (λ t. Granted g.K.Kind.has t (drafts_of c.judge.new.reader) c.in-Ok.plan) c.new-reader.ensures.text c.in-Ok.ensures.judged in
     ((y.whole.drawn.shape, drafts_of c.judge.new.reader, granted_accepts _ y.whole.drawn.shape y s refl), refl)
 
-pub enter-all-count-requires : goal.enter-all-count-requires
-enter-all-count-requires g c =
+pub enter_all-count-requires : goal.enter_all-count-requires
+enter_all-count-requires g c =
     let same = ap (λ x. x.now) c.in-Ok.ensures.same in
     record {
       room = c.if-names-lt128.false;
       few = c.judge.ensures.few;
-      long = c.in-Ok-blank-leaves.ensures;
+      long = c.in-Ok-blank_leaves.ensures;
       named = subst (λ t. AllNamed g.K.Kind.has t (drafts_of c.judge.new.reader)) (sym same) (granted_named c.in-Ok.ensures.judged);
     }
 
@@ -47,28 +47,28 @@ returns g c =
     let y = subst (λ t. Granted g.K.Kind.has t (drafts_of r) c.in-Ok.plan) c.new-reader.ensures.text c.in-Ok.ensures.judged in
     let same = ap (λ x. x.now) c.in-Ok.ensures.same ∙ c.new-reader.ensures.text in
     let shaped = subst (OfShape y.whole.drawn.shape) c.in-Some.is y.whole.drawn.meant.tree in
-    let h = subst (λ t. Entered g.K.Kind.text t (drafts_of r) c.args.names.now c.enter-all-count.new.names (vec_items c.enter-all-count.new.leaves) c.enter-all-count.result r.leaves) same c.enter-all-count.ensures.entered in
+    let h = subst (λ t. Entered g.K.Kind.text t (drafts_of r) c.args.names.now c.enter_all-count.new.names (vec_items c.enter_all-count.new.leaves) c.enter_all-count.result r.leaves) same c.enter_all-count.ensures.entered in
     let long : length (drafts_of r) ≤ r.leaves = omega (arith, length-take r.leaves r.drafts) in
-    reads_plan g.K.Kind.text g.K.Kind.has c.args.text.now c.args.names.now c.enter-all-count.new.names (drafts_of r) c.in-Ok.plan _ r.leaves s y
-    (ap shape_of c.in-Some.tree-is ∙ shaped) long c.enter-all-count.ensures.long h
+    reads_plan g.K.Kind.text g.K.Kind.has c.args.text.now c.args.names.now c.enter_all-count.new.names (drafts_of r) c.in-Ok.plan _ r.leaves s y
+    (ap shape_of c.in-Some.tree-is ∙ shaped) long c.enter_all-count.ensures.long h
 
-pub lay-out-requires : goal.lay-out-requires
-lay-out-requires g c =
+pub lay_out-requires : goal.lay_out-requires
+lay_out-requires g c =
     let some = c.if-text-eq0.false in
     let s : SizedWell (length c.args.names.now) c.args.text.now = record { room = c.if-names-lt128.false; some = omega arith; short = c.if-text-gt2048.false } in
     let y = subst (λ t. Granted g.K.Kind.has t (drafts_of c.judge.new.reader) c.in-Ok.plan) c.new-reader.ensures.text c.in-Ok.ensures.judged in
     let shaped = subst (OfShape y.whole.drawn.shape) c.in-Some.is y.whole.drawn.meant.tree in
     (granted_accepts (length c.args.names.now) _ y s (ap shape_of c.in-Some.tree-is ∙ shaped)).limits
 
-pub returns-in-default-lay-out : goal.returns-in-default-lay-out
-returns-in-default-lay-out g c =
+pub returns-in_default-lay_out : goal.returns-in_default-lay_out
+returns-in_default-lay_out g c =
     let some = c.if-text-eq0.false in
     let s : SizedWell (length c.args.names.now) c.args.text.now = record { room = c.if-names-lt128.false; some = omega arith; short = c.if-text-gt2048.false } in
     let y = subst (λ t. Granted g.K.Kind.has t (drafts_of c.judge.new.reader) c.in-Ok.plan) c.new-reader.ensures.text c.in-Ok.ensures.judged in
     ((y.whole.drawn.shape, drafts_of c.judge.new.reader, granted_accepts _ y.whole.drawn.shape y s refl), refl)
 
-pub invariant-of-result : goal.invariant-of-result
-invariant-of-result g c =
+pub invariant_of-result : goal.invariant_of-result
+invariant_of-result g c =
     let r = c.judge.new.reader in
     let some = c.if-text-eq0.false in
     let s : SizedWell (length c.args.names.now) c.args.text.now = record { room = c.if-names-lt128.false; some = omega arith; short = c.if-text-gt2048.false } in
@@ -76,11 +76,11 @@ invariant-of-result g c =
     let same = ap (λ x. x.now) c.in-Ok.ensures.same ∙ c.new-reader.ensures.text in
     let shaped = subst (OfShape y.whole.drawn.shape) c.in-Some.is y.whole.drawn.meant.tree in
     let q = ap shape_of c.in-Some.tree-is ∙ shaped in
-    let h = subst (λ t. Entered g.K.Kind.text t (drafts_of r) c.args.names.now c.enter-all-count.new.names (vec_items c.enter-all-count.new.leaves) c.enter-all-count.result r.leaves) same c.enter-all-count.ensures.entered in
+    let h = subst (λ t. Entered g.K.Kind.text t (drafts_of r) c.args.names.now c.enter_all-count.new.names (vec_items c.enter_all-count.new.leaves) c.enter_all-count.result r.leaves) same c.enter_all-count.ensures.entered in
     let long : length (drafts_of r) ≤ r.leaves = omega (arith, length-take r.leaves r.drafts) in (
       (granted_accepts (length c.args.names.now) _ y s q).limits,
       (
-        entered_fit g.K.Kind.text g.K.Kind.has c.args.text.now c.args.names.now c.enter-all-count.new.names (drafts_of r) c.in-Ok.plan _ _ _ r.leaves s y q long c.judge.ensures.few c.enter-all-count.ensures.long h,
-        (c.in-Ok-lay-out.ensures.0, (c.in-Ok-lay-out.ensures.1, tt)),
+        entered_fit g.K.Kind.text g.K.Kind.has c.args.text.now c.args.names.now c.enter_all-count.new.names (drafts_of r) c.in-Ok.plan _ _ _ r.leaves s y q long c.judge.ensures.few c.enter_all-count.ensures.long h,
+        (c.in-Ok-lay_out.ensures.0, (c.in-Ok-lay_out.ensures.1, tt)),
       ),
     )

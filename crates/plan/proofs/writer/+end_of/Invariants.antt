@@ -1,5 +1,5 @@
 use Rattle.layout.proofs.tree.Tree.TheLaws.{the_size}
 use Rattle.plan.proofs.writer.+end_of.Given as goal
 
-abbrev pub decreases-end-of : goal.decreases-end-of
-decreases-end-of g l = the_size l.tree.now
+abbrev pub decreases-end_of : goal.decreases-end_of
+decreases-end_of g l = the_size l.tree.now

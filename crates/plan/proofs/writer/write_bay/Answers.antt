@@ -9,6 +9,6 @@ returns-in-None c = laid_as _ _ (laid_none c.args.at c.args.buffer.now (omega ar
 pub returns-in-Some : goal.returns-in-Some
 returns-in-Some c =
     laid_as _ _
-    (laid_both c.args.at c.write-byte-end.result c.write-digits.result _ _ c.args.buffer.now c.write-byte-end.new.buffer c.write-digits.new.buffer
-    (omega arith) c.write-byte-end.ensures c.write-digits.ensures)
+    (laid_both c.args.at c.write_byte-end.result c.write_digits.result _ _ c.args.buffer.now c.write_byte-end.new.buffer c.write_digits.new.buffer
+    (omega arith) c.write_byte-end.ensures c.write_digits.ensures)
     (ap (λ n. 64 ∷ decimal n) c.from.ensures ∙ ap bay_text (sym c.in-Some.is))

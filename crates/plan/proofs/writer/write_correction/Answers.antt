@@ -12,15 +12,15 @@ returns-then-correction-eq0 c =
 pub returns : goal.returns
 returns c =
     let f : SFits w16 c.args.correction = c.ranges.correction in
-    let size = c.from.ensures ∙ (c.unsigned-abs.ensures.value ∙ ap nat_abs (to_z-of_z w16 c.args.correction f)) in
+    let size = c.from.ensures ∙ (c.unsigned_abs.ensures.value ∙ ap nat_abs (to_z-of_z w16 c.args.correction f)) in
     elim c.if-correction-lt0.branch [
       | then-correction-lt0 w ↦
-          let both = laid_both c.args.at _ _ (58 ∷ []) (45 ∷ []) c.args.buffer.now _ _ (omega arith) c.write-byte-end.ensures w.write-byte-end-then-correction-lt0.ensures in
+          let both = laid_both c.args.at _ _ (58 ∷ []) (45 ∷ []) c.args.buffer.now _ _ (omega arith) c.write_byte-end.ensures w.write_byte-end-then-correction-lt0.ensures in
           laid_as _ _
-          (laid_both c.args.at _ _ _ _ c.args.buffer.now _ _ (omega arith) (laid_on w.buffer-is w.end-is both) c.write-digits.ensures)
+          (laid_both c.args.at _ _ _ _ c.args.buffer.now _ _ (omega arith) (laid_on w.buffer-is w.end-is both) c.write_digits.ensures)
           (ap (λ n. 58 ∷ 45 ∷ decimal n) size ∙ sym (correction_below c.args.correction (simp to_z-of_z at w.if-correction-lt0.true)))
       | else-correction-lt0 w ↦
           laid_as _ _
-          (laid_both c.args.at _ _ _ _ c.args.buffer.now _ _ (omega arith) (laid_on w.buffer-is w.end-is c.write-byte-end.ensures) c.write-digits.ensures)
+          (laid_both c.args.at _ _ _ _ c.args.buffer.now _ _ (omega arith) (laid_on w.buffer-is w.end-is c.write_byte-end.ensures) c.write_digits.ensures)
           (ap (λ n. 58 ∷ decimal n) size ∙ sym (correction_above c.args.correction c.if-correction-eq0.false (simp to_z-of_z at w.if-correction-lt0.false)))
     ]

@@ -4,5 +4,5 @@ use Rattle.plan.proofs.writer.write_digits.Goals as goal
 
 pub returns : goal.returns
 returns c =
-    laid_part c.args.at c.unwrap.result (decimal c.args.n) c.args.buffer.now c.write-number.new.buffer c.write-number.result
-    (omega arith) c.write-number.ensures c.unwrap.ensures
+    laid_part c.args.at c.unwrap.result (decimal c.args.n) c.args.buffer.now c.write_number.new.buffer c.write_number.result
+    (omega arith) c.write_number.ensures c.unwrap.ensures

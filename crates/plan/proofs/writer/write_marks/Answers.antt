@@ -5,18 +5,18 @@ use Rattle.grammar.specs.Written.{correction_text, bay_text}
 use Rattle.plan.proofs.Writing.{laid_both, laid_as}
 use Rattle.plan.proofs.writer.write_marks.Goals as goal
 
-pub write-correction-end-requires : goal.write-correction-end-requires
-write-correction-end-requires c =
+pub write_correction-end-requires : goal.write_correction-end-requires
+write_correction-end-requires c =
     let f : SFits w16 c.args.marks.correction = search rules in
     simp to_z-of_z (omega (arith, length-append (correction_text c.args.marks.correction) (bay_text c.args.marks.bay)))
 
-pub write-bay-requires : goal.write-bay-requires
-write-bay-requires c =
+pub write_bay-requires : goal.write_bay-requires
+write_bay-requires c =
     let f : SFits w16 c.args.marks.correction = search rules in
-    omega (arith, length-append (correction_text c.args.marks.correction) (bay_text c.args.marks.bay), simp to_z-of_z at c.write-correction-end.ensures.ends)
+    omega (arith, length-append (correction_text c.args.marks.correction) (bay_text c.args.marks.bay), simp to_z-of_z at c.write_correction-end.ensures.ends)
 
 pub returns : goal.returns
 returns c =
     let f : SFits w16 c.args.marks.correction = search rules in
-    laid_both c.args.at c.write-correction-end.result c.write-bay.result _ _ c.args.buffer.now c.write-correction-end.new.buffer c.write-bay.new.buffer
-    (omega arith) (laid_as _ _ c.write-correction-end.ensures (ap correction_text (to_z-of_z w16 c.args.marks.correction f))) c.write-bay.ensures
+    laid_both c.args.at c.write_correction-end.result c.write_bay.result _ _ c.args.buffer.now c.write_correction-end.new.buffer c.write_bay.new.buffer
+    (omega arith) (laid_as _ _ c.write_correction-end.ensures (ap correction_text (to_z-of_z w16 c.args.marks.correction f))) c.write_bay.ensures

@@ -2,8 +2,8 @@ use Rattle.std.proofs.Common.{rules}
 use Rattle.reader.proofs.ReadingEntered.{known_numbered, known_low, new_numbered}
 use Rattle.reader.proofs.entering.number.Goals as goal
 
-pub overflow-cast-result : goal.overflow-cast-result
-overflow-cast-result g c =
+pub overflow_cast-result : goal.overflow_cast-result
+overflow_cast-result g c =
     let l = known_low g.K.Kind.text c.args.names.now c.add.new.names c.args.count c.args.name c.in-Some.entry c.requires.room c.in-Known.number c.in-Known.is c.in-Some.ensures in
     search rules
 

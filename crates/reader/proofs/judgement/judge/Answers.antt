@@ -12,7 +12,7 @@ returns-in-Err g c =
     record {
       same = c.read.ensures.same;
       few = c.read.ensures.few;
-      judged = first_judges g.K.Kind.has c.args.reader.now.text.now c.first-refusal.result (subst (λ t. First g.K.Kind.has t c.first-refusal.result) same c.first-refusal.ensures);
+      judged = first_judges g.K.Kind.has c.args.reader.now.text.now c.first_refusal.result (subst (λ t. First g.K.Kind.has t c.first_refusal.result) same c.first_refusal.ensures);
     }
 
 pub returns-in-Some : goal.returns-in-Some
@@ -30,7 +30,7 @@ returns-then-width-gt8 g c =
     let t = c.args.reader.now.text.now in
     let same = ap (λ x. x.now) c.read.ensures.same in
     let w = c.in-Ok.ensures.read in
-    let u = subst (λ t. Unnamed has t (length t) None) same c.in-default.ensures in
+    let u = subst (λ t. Unnamed has t (length t) None) same c.in_default.ensures in
     record {
       same = c.read.ensures.same;
       few = c.read.ensures.few;
@@ -46,7 +46,7 @@ returns-then-cuts-gt4096 g c =
     let t = c.args.reader.now.text.now in
     let same = ap (λ x. x.now) c.read.ensures.same in
     let w = c.in-Ok.ensures.read in
-    let u = subst (λ t. Unnamed has t (length t) None) same c.in-default.ensures in
+    let u = subst (λ t. Unnamed has t (length t) None) same c.in_default.ensures in
     let a = c.width-width.ensures w.drawn.shape w.drawn.meant.sized in
     let b = c.cuts.ensures w.drawn.shape w.drawn.meant.sized in
     let i = c.if-width-gt8.false in
@@ -66,7 +66,7 @@ returns g c =
     let t = c.args.reader.now.text.now in
     let same = ap (λ x. x.now) c.read.ensures.same in
     let w = c.in-Ok.ensures.read in
-    let u = subst (λ t. Unnamed has t (length t) None) same c.in-default.ensures in
+    let u = subst (λ t. Unnamed has t (length t) None) same c.in_default.ensures in
     let a = c.width-width.ensures w.drawn.shape w.drawn.meant.sized in
     let b = c.cuts.ensures w.drawn.shape w.drawn.meant.sized in
     let i = c.if-width-gt8.false in

@@ -5,5 +5,5 @@ use Rattle.reader.proofs.look.name_at.Goals as goal
 pub returns-in-Name : goal.returns-in-Name
 returns-in-Name c = run_longest name_byte c.args.text.now c.args.at c.in-Name.run'.now c.in-Name.ensures.1
 
-pub returns-in-default : goal.returns-in-default
-returns-in-default c = no_name_there c.args.text.now c.args.at c.part-at.result c.part-at.ensures c.in-default.not-Name
+pub returns-in_default : goal.returns-in_default
+returns-in_default c = no_name_there c.args.text.now c.args.at c.part_at.result c.part_at.ensures c.in_default.not-Name

@@ -7,8 +7,8 @@ use Rattle.reader.proofs.ReadingMarks.{bay_opens, bay_none}
 use Rattle.reader.proofs.ReadingNumbers.{byte_within, bay_wrong_there, bay_right_there}
 use Rattle.reader.proofs.marks.bay_at.Goals as goal
 
-pub returns-in-default : goal.returns-in-default
-returns-in-default c =
+pub returns-in_default : goal.returns-in_default
+returns-in_default c =
     let t = c.args.text.now in
     let p = c.args.at in
     let e = eqb-true _ _ (sym c.if-not-stands.ensures.value) in
@@ -16,7 +16,7 @@ returns-in-default c =
     record {
       onward = tt;
       ranged = tt;
-      read = λ n k fs h. bay_none (bay_opens h e) (c.in-default.ensures (omega arith) (may_begin t p 64 e refl));
+      read = λ n k fs h. bay_none (bay_opens h e) (c.in_default.ensures (omega arith) (may_begin t p 64 e refl));
     }
 
 pub returns-in-None : goal.returns-in-None

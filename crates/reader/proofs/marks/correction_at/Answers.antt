@@ -6,15 +6,15 @@ use Rattle.reader.proofs.ReadingText.{correction_text_of}
 use Rattle.reader.proofs.ReadingNumbers.{correction_from, correction_none, correction_wrong, correction_right}
 use Rattle.reader.proofs.marks.correction_at.Goals as goal
 
-pub returns-in-default : goal.returns-in-default
-returns-in-default c =
+pub returns-in_default : goal.returns-in_default
+returns-in_default c =
     let e = eqb-true _ _ (sym c.if-not-stands.ensures.value) in
     let f = sym c.stands-minus.ensures.value in
     let g = ap (λ x. c.args.at + 1 + x) c.from.ensures in
     let l = correction_from c.args.text.now c.args.at _ e c.stands-minus.result f g in
     record {
       onward = tt;
-      read = λ n k fs h _. correction_none c.args.text.now c.args.at _ e n k fs h c.stands-minus.result f g (c.in-default.ensures l.0 l.1);
+      read = λ n k fs h _. correction_none c.args.text.now c.args.at _ e n k fs h c.stands-minus.result f g (c.in_default.ensures l.0 l.1);
     }
 
 pub returns-in-None : goal.returns-in-None

@@ -10,9 +10,9 @@ returns-then-line-eq0 g c = nothing c.args.line.now c.if-line-eq0.true
 
 pub returns-in-Some : goal.returns-in-Some
 returns-in-Some g c =
-    subst (λ t. Asks g.K.Kind.text g.K.Kind.has t c.stamp-of.result)
+    subst (λ t. Asks g.K.Kind.text g.K.Kind.has t c.stamp_of.result)
     (sym (strip_prefix_is Decides-eqb c.args.line.now (codes "stamp ") (Some c.in-Some.name) c.in-Some.ensures.cases))
-    c.stamp-of.ensures
+    c.stamp_of.ensures
 
 pub returns-then-eq : goal.returns-then-eq
 returns-then-eq g c = ((slice_eq-Decides Decides-eqb c.args.line.now (codes "strike") _ c.eq.ensures).0 c.if-eq.true, tt)
@@ -32,7 +32,7 @@ returns-then-eq-5 g c = ((slice_eq-Decides Decides-eqb c.args.line.now (codes "r
 pub returns-else-eq-5 : goal.returns-else-eq-5
 returns-else-eq-5 g c =
     let t = c.args.line.now in
-    let s = strip_prefix_is Decides-eqb t (codes "stamp ") None c.in-default.ensures.cases in (
+    let s = strip_prefix_is Decides-eqb t (codes "stamp ") None c.in_default.ensures.cases in (
       (λ e. c.if-line-eq0.false (ap length e)),
       s,
       no_call g.K.Kind.text g.K.Kind.has t s

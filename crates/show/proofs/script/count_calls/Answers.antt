@@ -13,9 +13,9 @@ loop-next-preserved g c =
 
 pub returns : goal.returns
 returns g c =
-    counted g.K.Kind.text g.K.Kind.has c.args.text.now c.args.from c.loop-next.at c.loop-next.count c.in-default.ensures c.loop-next.invariant
+    counted g.K.Kind.text g.K.Kind.has c.args.text.now c.args.from c.loop-next.at c.loop-next.count c.in_default.ensures c.loop-next.invariant
 
-pub overflow-add-count : goal.overflow-add-count
-overflow-add-count g c =
+pub overflow_add-count : goal.overflow_add-count
+overflow_add-count g c =
     let o = onward g.K.Kind.text g.K.Kind.has c.args.text.now c.loop-next.at (Some (c.in-Some.field-0-0, c.in-Some.next)) c.in-Some.ensures in
     omega (arith, o.1, c.loop-next.invariant.few, c.well_formed.0)

@@ -8,7 +8,7 @@ returns-in-For g c =
 
 pub loop-line-preserved : goal.loop-line-preserved
 loop-line-preserved g c r f =
-    c.loop-line.invariant r (passed g.K.Kind.text g.K.Kind.has c.args.text.now c.loop-line.at c.in-Some.line.next c.in-Some.line.bytes.now c.request-of.result r c.in-Some.ensures.1 c.request-of.ensures c.in-default-request-of.not-For f)
+    c.loop-line.invariant r (passed g.K.Kind.text g.K.Kind.has c.args.text.now c.loop-line.at c.in-Some.line.next c.in-Some.line.bytes.now c.request_of.result r c.in-Some.ensures.1 c.request_of.ensures c.in_default-request_of.not-For f)
 
 pub returns : goal.returns
-returns g c = c.loop-line.invariant _ (over c.in-default.ensures)
+returns g c = c.loop-line.invariant _ (over c.in_default.ensures)

@@ -7,7 +7,7 @@ use Rattle.show.proofs.serving.serve_lines.Goals as goal
 pub returns : goal.returns
 returns g c =
     let s = c.serve.ensures.served in
-    let k = c.count-calls-count.ensures in
+    let k = c.count_calls-count.ensures in
     record {
       turned = s.turned;
       added = s.added;

@@ -3,8 +3,8 @@ use Rattle.std.proofs.lemmas.Fmt.{length-decimal-le}
 use Rattle.text.specs.Numbers.{length_one, length_step}
 use Rattle.text.proofs.decimal.+digits.Goals as goal
 
-pub overflow-add-result : goal.overflow-add-result
-overflow-add-result t c =
+pub overflow_add-result : goal.overflow_add-result
+overflow_add-result t c =
     let f : c.args.n < 2 ^ 32 = search rules in
     let l = length-decimal-le 10 (c.args.n / 10) (omega arith) (omega arith) (omega arith) in
     let s : c.digits.result + 1 < 2 ^ 64 = omega (arith, l, c.digits.ensures) in

@@ -17,8 +17,8 @@ bounds-buffer-k t c =
     now_length c.args.n c.put-k.result c.args.buffer.now c.put-k.new.buffer c.put-k.ensures.count
     (omega (arith, length_step c.args.n c.if-n-lt10.false f, c.put-k.ensures.count)) c.put-k.ensures.written
 
-pub overflow-add-result : goal.overflow-add-result
-overflow-add-result t c =
+pub overflow_add-result : goal.overflow_add-result
+overflow_add-result t c =
     let f : c.args.n < 2 ^ 32 = search rules in
     let l = length-decimal-le 10 (c.args.n / 10) (omega arith) (omega arith) (omega arith) in
     let s : c.put-k.result + 1 < 2 ^ 64 = omega (arith, l, c.put-k.ensures.count) in

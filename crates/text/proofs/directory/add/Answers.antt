@@ -8,8 +8,8 @@ returns-in-Some g c =
 
 pub returns-then-len-names : goal.returns-then-len-names
 returns-then-len-names g c =
-    (finds_first g.K.Kind.text c.args.names.now (g.K.Kind.text c.args.name) c.args.len c.min-count.result None c.min-count.ensures c.in-default.ensures, c.if-len-names.true, refl)
+    (finds_first g.K.Kind.text c.args.names.now (g.K.Kind.text c.args.name) c.args.len c.min-count.result None c.min-count.ensures c.in_default.ensures, c.if-len-names.true, refl)
 
 pub returns : goal.returns
 returns g c =
-    (finds_first g.K.Kind.text c.args.names.now (g.K.Kind.text c.args.name) c.args.len c.min-count.result None c.min-count.ensures c.in-default.ensures, refl, c.if-len-names.false, refl)
+    (finds_first g.K.Kind.text c.args.names.now (g.K.Kind.text c.args.name) c.args.len c.min-count.result None c.min-count.ensures c.in_default.ensures, refl, c.if-len-names.false, refl)

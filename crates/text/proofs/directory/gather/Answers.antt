@@ -2,10 +2,10 @@ use Rattle.text.proofs.Entries.{known_step, new_step, full_step, all_steps}
 use Rattle.text.proofs.directory.gather.Goals.{in-Known, in-New}
 use Rattle.text.proofs.directory.gather.Goals as goal
 
-pub returns-in-default : goal.returns-in-default
-returns-in-default g c =
+pub returns-in_default : goal.returns-in_default
+returns-in_default g c =
     full_step g.K.Kind.text c.args.list.now c.args.names.now c.loop-x.names c.loop-x.len c.loop-x.x-index c.loop-x.invariant
-    c.add.new.names c.x-item.result c.loop-x-test.true c.x-item.is c.loop-x.auto.names c.in-default.ensures
+    c.add.new.names c.x-item.result c.loop-x-test.true c.x-item.is c.loop-x.auto.names c.in_default.ensures
 
 pub loop-x-preserved : goal.loop-x-preserved
 loop-x-preserved g c =

@@ -11,8 +11,8 @@ returns-then-self-ge128 c =
     let w = stands_within (spot c.args.self.now) (omega (arith, c.requires.blank)) in
     record { steady = search rules; read = λ room fs h. too_many_leaves h w (ap leaf_byte c.requires.blank) c.if-self-ge128.true }
 
-pub overflow-add-self : goal.overflow-add-self
-overflow-add-self c =
+pub overflow_add-self : goal.overflow_add-self
+overflow_add-self c =
     let w = stands_within (spot c.args.self.now) (omega (arith, c.requires.blank)) in
     search rules
 
@@ -21,5 +21,5 @@ returns c =
     let w = stands_within (spot c.args.self.now) (omega (arith, c.requires.blank)) in
     record {
       steady = noted_steady (c.args.self.now.at + 1) c.note.ensures (omega arith) (omega arith) (omega arith);
-      read = λ room fs h. blank_read _ room fs c.of-leaf.result c.note.ensures h c.requires.blank c.if-self-ge128.false (omega arith, tt) c.of-leaf.ensures;
+      read = λ room fs h. blank_read _ room fs c.of_leaf.result c.note.ensures h c.requires.blank c.if-self-ge128.false (omega arith, tt) c.of_leaf.ensures;
     }

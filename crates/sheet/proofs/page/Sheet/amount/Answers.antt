@@ -7,11 +7,11 @@ returns-in-Some g c =
     let s = c.args.self.now in
     weighs_short g.K.Kind.text s.plan.now s.names.now (take s.count s.stamps) (length c.args.numbers.now) (length c.args.amounts.now) g.S.Scale.value g.S.Scale.join g.S.Scale.start g.S.Scale.extend c.in-Some.n c.in-Some.ensures
 
-pub amount-at-last-requires : goal.amount-at-last-requires
-amount-at-last-requires g c =
+pub amount_at_last-requires : goal.amount_at_last-requires
+amount_at_last-requires g c =
     let s = c.args.self.now in
     let stamps = take s.count s.stamps in
-    let h = room (length s.names.now) (length c.args.numbers.now) (length c.args.amounts.now) (sym c.in-default.ensures) in
+    let h = room (length s.names.now) (length c.args.numbers.now) (length c.args.amounts.now) (sym c.in_default.ensures) in
     record {
       ready = ready_at g.K.Kind.text s.plan.now s.names.now stamps c.rows.result c.leaves.result.now c.moves.result.now c.front.result.now c.rows.ensures c.leaves.ensures c.moves.ensures c.front.ensures (length s.names.now) h.0;
       among = among_at g.K.Kind.text s.plan.now s.names.now stamps c.rows.result c.leaves.result.now c.moves.result.now c.front.result.now c.rows.ensures c.leaves.ensures c.moves.ensures c.front.ensures (length s.names.now) s.among;
@@ -19,16 +19,16 @@ amount-at-last-requires g c =
       amounts-room = h.2;
     }
 
-pub returns-in-Some-amount-at-last : goal.returns-in-Some-amount-at-last
-returns-in-Some-amount-at-last g c =
+pub returns-in-Some-amount_at_last : goal.returns-in-Some-amount_at_last
+returns-in-Some-amount_at_last g c =
     let s = c.args.self.now in
     let stamps = take s.count s.stamps in
     weighs_some_at g.K.Kind.text s.plan.now s.names.now stamps c.rows.result c.leaves.result.now c.moves.result.now c.front.result.now c.rows.ensures c.leaves.ensures c.moves.ensures c.front.ensures
-    (length c.args.numbers.now) (length c.args.amounts.now) c.in-default.ensures g.S.Scale.value g.S.Scale.join g.S.Scale.start g.S.Scale.extend c.in-Some-amount-at-last.x c.in-Some-amount-at-last.ensures
+    (length c.args.numbers.now) (length c.args.amounts.now) c.in_default.ensures g.S.Scale.value g.S.Scale.join g.S.Scale.start g.S.Scale.extend c.in-Some-amount_at_last.x c.in-Some-amount_at_last.ensures
 
 pub returns-in-None : goal.returns-in-None
 returns-in-None g c =
     let s = c.args.self.now in
     let stamps = take s.count s.stamps in
     weighs_none_at g.K.Kind.text s.plan.now s.names.now stamps c.rows.result c.leaves.result.now c.moves.result.now c.front.result.now c.rows.ensures c.leaves.ensures c.moves.ensures c.front.ensures
-    (length c.args.numbers.now) (length c.args.amounts.now) c.in-default.ensures g.S.Scale.value g.S.Scale.join g.S.Scale.start g.S.Scale.extend c.in-None.ensures
+    (length c.args.numbers.now) (length c.args.amounts.now) c.in_default.ensures g.S.Scale.value g.S.Scale.join g.S.Scale.start g.S.Scale.extend c.in-None.ensures

@@ -8,10 +8,10 @@ returns-in-Some g c =
     let s = c.args.self.now in
     checks_short g.K.Kind.text s.plan.now s.names.now c.args.stamps.now c.args.leaves.now (length c.args.numbers.now) (length c.args.amounts.now) c.in-Some.n c.in-Some.ensures
 
-pub is-way-yes-requires : goal.is-way-yes-requires
-is-way-yes-requires g c =
+pub is_way-yes-requires : goal.is_way-yes-requires
+is_way-yes-requires g c =
     let s = c.args.self.now in
-    let h = room (length s.names.now) (length c.args.numbers.now) (length c.args.amounts.now) (sym c.in-default.ensures) in
+    let h = room (length s.names.now) (length c.args.numbers.now) (length c.args.amounts.now) (sym c.in_default.ensures) in
     record {
       ready = ready_at g.K.Kind.text s.plan.now s.names.now [] c.rows.result c.leaves-known.result.now c.moves.result.now [] c.rows.ensures c.leaves-known.ensures c.moves.ensures refl (length s.names.now) h.0;
       even = c.if-leaves-stamps.false;
@@ -20,13 +20,13 @@ is-way-yes-requires g c =
 pub returns : goal.returns
 returns g c =
     let s = c.args.self.now in
-    checks_way g.K.Kind.text s.plan.now s.names.now c.args.stamps.now c.args.leaves.now (length c.args.numbers.now) (length c.args.amounts.now) c.in-default.ensures
-    c.rows.result c.leaves-known.result.now c.moves.result.now c.rows.ensures c.leaves-known.ensures c.moves.ensures c.is-way-yes.result c.is-way-yes.ensures
+    checks_way g.K.Kind.text s.plan.now s.names.now c.args.stamps.now c.args.leaves.now (length c.args.numbers.now) (length c.args.amounts.now) c.in_default.ensures
+    c.rows.result c.leaves-known.result.now c.moves.result.now c.rows.ensures c.leaves-known.ensures c.moves.ensures c.is_way-yes.result c.is_way-yes.ensures
 
 pub returns-then-leaves-stamps : goal.returns-then-leaves-stamps
 returns-then-leaves-stamps g c =
     let s = c.args.self.now in
     elim c.then-leaves-stamps.either [
-      | inl uneven ↦ checks_uneven g.K.Kind.text s.plan.now s.names.now c.args.stamps.now c.args.leaves.now (length c.args.numbers.now) (length c.args.amounts.now) c.in-default.ensures uneven
-      | inr long ↦ checks_long g.K.Kind.text s.plan.now s.names.now c.args.stamps.now c.args.leaves.now (length c.args.numbers.now) (length c.args.amounts.now) c.in-default.ensures c.leaves-known.result.now c.leaves-known.ensures long.1
+      | inl uneven ↦ checks_uneven g.K.Kind.text s.plan.now s.names.now c.args.stamps.now c.args.leaves.now (length c.args.numbers.now) (length c.args.amounts.now) c.in_default.ensures uneven
+      | inr long ↦ checks_long g.K.Kind.text s.plan.now s.names.now c.args.stamps.now c.args.leaves.now (length c.args.numbers.now) (length c.args.amounts.now) c.in_default.ensures c.leaves-known.result.now c.leaves-known.ensures long.1
     ]

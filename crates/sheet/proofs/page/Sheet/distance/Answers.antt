@@ -11,7 +11,7 @@ pub distances-requires : goal.distances-requires
 distances-requires g c =
     let s = c.args.self.now in
     let stamps = take s.count s.stamps in
-    let h = room (length s.names.now) (length c.args.numbers.now) (length c.args.amounts.now) (sym c.in-default.ensures) in
+    let h = room (length s.names.now) (length c.args.numbers.now) (length c.args.amounts.now) (sym c.in_default.ensures) in
     record {
       ready = ready_at g.K.Kind.text s.plan.now s.names.now stamps c.rows.result c.leaves.result.now c.moves.result.now c.front.result.now c.rows.ensures c.leaves.ensures c.moves.ensures c.front.ensures (length s.names.now) h.0;
       among = among_at g.K.Kind.text s.plan.now s.names.now stamps c.rows.result c.leaves.result.now c.moves.result.now c.front.result.now c.rows.ensures c.leaves.ensures c.moves.ensures c.front.ensures (length s.names.now) s.among;
@@ -24,11 +24,11 @@ returns-in-Some-distances g c =
     let s = c.args.self.now in
     let stamps = take s.count s.stamps in
     tells_some_at g.K.Kind.text s.plan.now s.names.now stamps c.rows.result c.leaves.result.now c.moves.result.now c.front.result.now c.rows.ensures c.leaves.ensures c.moves.ensures c.front.ensures
-    (length c.args.numbers.now) (length c.args.amounts.now) c.in-default.ensures c.in-Some-distances.range c.in-Some-distances.ensures
+    (length c.args.numbers.now) (length c.args.amounts.now) c.in_default.ensures c.in-Some-distances.range c.in-Some-distances.ensures
 
 pub returns-in-None : goal.returns-in-None
 returns-in-None g c =
     let s = c.args.self.now in
     let stamps = take s.count s.stamps in
     tells_none_at g.K.Kind.text s.plan.now s.names.now stamps c.rows.result c.leaves.result.now c.moves.result.now c.front.result.now c.rows.ensures c.leaves.ensures c.moves.ensures c.front.ensures
-    (length c.args.numbers.now) (length c.args.amounts.now) c.in-default.ensures c.in-None.ensures
+    (length c.args.numbers.now) (length c.args.amounts.now) c.in_default.ensures c.in-None.ensures

@@ -6,8 +6,8 @@ use Rattle.sheet.proofs.Grounds.{shape, plan_leaves}
 use Rattle.sheet.proofs.Stamping.{every_fewer, standing_take, standing_length, strikes_some, begun_take}
 use Rattle.sheet.proofs.page.Sheet.strike.Goals as goal
 
-pub invariant-of-self : goal.invariant-of-self
-invariant-of-self g c =
+pub invariant_of-self : goal.invariant_of-self
+invariant_of-self g c =
     let s = c.args.self.now in
     (omega (arith, s.few), (every_fewer _ _ s.count s.stamps (omega arith) s.among, tt))
 
