@@ -7,10 +7,10 @@ live_after-requires g c =
     let names = c.args.names.now in
     let stamps = c.args.stamps.now in
     record {
-      ready = ready_at g.K.Kind.text c.args.plan.now names stamps c.rows.result c.leaves.result.now c.moves.result.now stamps c.rows.ensures c.leaves.ensures c.moves.ensures refl (length names) c.requires.names-room;
+      ready = ready_at g.K.Kind.text c.args.plan.now names stamps c.rows.result c.leaves.result.now c.moves.result.now stamps c.rows.ensures c.leaves.ensures c.moves.ensures refl (length names) c.requires.names_room;
       among = c.requires.among;
-      numbers-room = c.requires.numbers-room;
-      amounts-room = c.requires.amounts-room;
+      numbers_room = c.requires.numbers_room;
+      amounts_room = c.requires.amounts_room;
     }
 
 pub returns : goal.returns

@@ -40,7 +40,7 @@ overflow_cast-l-in-loop-i g c =
 pub rows_after-here-requires : goal.rows_after-here-requires
 rows_after-here-requires g c = record {
   small = c.requires.ready.small;
-  here-room = omega (arith, c.loop-i.invariant.0);
+  here_room = omega (arith, c.loop-i.invariant.0);
   ordered = c.requires.ready.ordered;
   within = within_all c.args.rows (length c.args.leaves.now) 128 c.args.moves.now c.requires.ready.few c.requires.ready.within;
 }

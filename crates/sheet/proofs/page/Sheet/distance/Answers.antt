@@ -15,8 +15,8 @@ distances-requires g c =
     record {
       ready = ready_at g.K.Kind.text s.plan.now s.names.now stamps c.rows.result c.leaves.result.now c.moves.result.now c.front.result.now c.rows.ensures c.leaves.ensures c.moves.ensures c.front.ensures (length s.names.now) h.0;
       among = among_at g.K.Kind.text s.plan.now s.names.now stamps c.rows.result c.leaves.result.now c.moves.result.now c.front.result.now c.rows.ensures c.leaves.ensures c.moves.ensures c.front.ensures (length s.names.now) s.among;
-      numbers-room = h.1;
-      amounts-room = h.2;
+      numbers_room = h.1;
+      amounts_room = h.2;
     }
 
 pub returns-in-Some-distances : goal.returns-in-Some-distances

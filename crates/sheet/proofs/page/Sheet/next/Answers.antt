@@ -24,10 +24,10 @@ following-n-requires g c =
       ready = ready_at g.K.Kind.text s.plan.now s.names.now stamps c.rows.result c.leaves.result.now c.moves.result.now c.front.result.now c.rows.ensures c.leaves.ensures c.moves.ensures c.front.ensures (length s.names.now) h.0;
       among = among_at g.K.Kind.text s.plan.now s.names.now stamps c.rows.result c.leaves.result.now c.moves.result.now c.front.result.now c.rows.ensures c.leaves.ensures c.moves.ensures c.front.ensures (length s.names.now) s.among;
       few = omega arith;
-      names-room = omega arith;
-      list-room = omega arith;
-      numbers-room = h.2;
-      amounts-room = h.3;
+      names_room = omega arith;
+      list_room = omega arith;
+      numbers_room = h.2;
+      amounts_room = h.3;
     }
 
 pub returns : goal.returns

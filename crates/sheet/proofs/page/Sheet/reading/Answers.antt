@@ -23,8 +23,8 @@ first_way-found-requires g c =
       ready = ready_at g.K.Kind.text s.plan.now s.names.now stamps c.rows.result c.leaves.result.now c.moves.result.now c.front-stamps.result.now c.rows.ensures c.leaves.ensures c.moves.ensures c.front-stamps.ensures (length s.names.now) h.0;
       among = among_at g.K.Kind.text s.plan.now s.names.now stamps c.rows.result c.leaves.result.now c.moves.result.now c.front-stamps.result.now c.rows.ensures c.leaves.ensures c.moves.ensures c.front-stamps.ensures (length s.names.now) s.among;
       few = omega arith;
-      list-room = omega (arith, size, h.1);
-      numbers-room = h.2;
+      list_room = omega (arith, size, h.1);
+      numbers_room = h.2;
     }
 
 pub returns-then-not-found : goal.returns-then-not-found

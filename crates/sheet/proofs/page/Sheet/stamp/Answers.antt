@@ -54,10 +54,10 @@ log_begins-live-requires g c =
     let fits : s.count < length s.stamps = search rules in
     let h = room (length s.names.now) (length c.args.numbers.now) (length c.args.amounts.now) (sym c.in_default.ensures) in
     record {
-      names-room = h.0;
+      names_room = h.0;
       among = subst (λ xs. All (λ k. k < length s.names.now) xs) (sym c.front-more.ensures) (all_below (length s.names.now) more (among_more g.K.Kind.text s.plan.now s.names.now c.front-known.result.now c.names.result (g.K.Kind.text c.args.name) (length c.args.numbers.now) (length c.args.amounts.now) c.in_default.ensures c.names.ensures c.front-known.ensures c.in-Some-find.number c.in-Some-find.ensures s.stamps s.count fits s.among));
-      numbers-room = h.1;
-      amounts-room = h.2;
+      numbers_room = h.1;
+      amounts_room = h.2;
     }
 
 pub returns-then-not-live : goal.returns-then-not-live
