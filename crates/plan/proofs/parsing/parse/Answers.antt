@@ -77,10 +77,11 @@ invariant_of-result g c =
     let shaped = subst (OfShape y.whole.drawn.shape) c.in-Some.is y.whole.drawn.meant.tree in
     let q = ap shape_of c.in-Some.tree-is ∙ shaped in
     let h = subst (λ t. Entered g.K.Kind.text t (drafts_of r) c.args.names.now c.enter_all-count.new.names (vec_items c.enter_all-count.new.leaves) c.enter_all-count.result r.leaves) same c.enter_all-count.ensures.entered in
-    let long : length (drafts_of r) ≤ r.leaves = omega (arith, length-take r.leaves r.drafts) in (
-      (granted_accepts (length c.args.names.now) _ y s q).limits,
-      (
-        entered_fit g.K.Kind.text g.K.Kind.has c.args.text.now c.args.names.now c.enter_all-count.new.names (drafts_of r) c.in-Ok.plan _ _ _ r.leaves s y q long c.judge.ensures.few c.enter_all-count.ensures.long h,
-        (c.in-Ok-lay_out.ensures.0, (c.in-Ok-lay_out.ensures.1, tt)),
-      ),
-    )
+    let long : length (drafts_of r) ≤ r.leaves = omega (arith, length-take r.leaves r.drafts) in
+    record {
+      limited = (granted_accepts (length c.args.names.now) _ y s q).limits;
+      fitting =
+        entered_fit g.K.Kind.text g.K.Kind.has c.args.text.now c.args.names.now c.enter_all-count.new.names (drafts_of r) c.in-Ok.plan _ _ _ r.leaves s y q long c.judge.ensures.few c.enter_all-count.ensures.long h;
+      laid = c.in-Ok-lay_out.ensures.0;
+      moving = c.in-Ok-lay_out.ensures.1;
+    }
