@@ -3,6 +3,7 @@ use Rattle.std.proofs.Common.{◌≡◌, ℕ, Bool, true, false, ◌⊎◌, List
 use mathlib.Core.List.{map-append}
 use Rattle.std.proofs.ByRecursion.{All-push}
 use Rattle.text.specs.Directory.{Text}
+use Rattle.text.specs.declared.kind.Kind.{Ghosts}
 use Rattle.plan.specs.declared.plan.Plan.{Plan}
 use Rattle.sheet.specs.declared.page.Sheet.{Sheet}
 use Rattle.sheet.specs.declared.refusal.Refusal.{Refusal}
@@ -23,11 +24,11 @@ pub record PutTo (g h : Ground) (σ : List Text) (t u : Text) (lack : Option ℕ
   pub text : t ≡ u
 
 -- a sheet with the same plan and names has the same ground
-pub same_ground : {K : Type 0} (text : K → Text) (s t : Sheet K) → s.plan ≡ t.plan → s.names ≡ t.names → ground_of text s ≡ ground_of text t
+pub same_ground : {K : Type 0} {G : Ghosts K} (text : K → Text) (s t : Sheet K G) → s.plan ≡ t.plan → s.names ≡ t.names → ground_of text s ≡ ground_of text t
 same_ground text s t p q = ap (λ (x : Bor Plan). ground_over text x.now s.names.now) p ∙ ap (λ x. ground_over text t.plan.now x.now) q
 
 -- the ground of a sheet over a plan and names
-pub opened_ground : {K : Type 0} (text : K → Text) (s : Sheet K) (p : Plan) (names : List K) → s.plan.now ≡ p → s.names.now ≡ names → ground_of text s ≡ ground_over text p names
+pub opened_ground : {K : Type 0} {G : Ghosts K} (text : K → Text) (s : Sheet K G) (p : Plan) (names : List K) → s.plan.now ≡ p → s.names.now ≡ names → ground_of text s ≡ ground_over text p names
 opened_ground text s p names e f = ap (λ x. ground_over text x s.names.now) e ∙ ap (ground_over text p) f
 
 -- the same answers, of the same ground and stamps
@@ -36,7 +37,7 @@ pub answers_moved : (g h : Ground) (σ τ : List Text) (reading reading_after ne
 answers_moved g h σ τ r r' n n' j e f a = subst (λ ρ. AnswersOf h ρ r r' n n' j) f (subst (λ k. AnswersOf k σ r r' n n' j) e a)
 
 -- a sheet with the same plan and names, lent as much as it needs
-pub put_to : {K : Type 0} (text : K → Text) (s t : Sheet K) (x : K) (u : Text) (m n a b : ℕ) (done : List Placed) → s.plan ≡ t.plan → s.names ≡ t.names
+pub put_to : {K : Type 0} {G : Ghosts K} (text : K → Text) (s t : Sheet K G) (x : K) (u : Text) (m n a b : ℕ) (done : List Placed) → s.plan ≡ t.plan → s.names ≡ t.names
     → m ≡ n → a ≡ b → short (length (ground_of text t).texts) n b ≡ None → stands_on text s ≡ texts_of done → text x ≡ u
     → PutTo (ground_of text t) (ground_of text s) (stands_on text s) (text x) u (short (length (ground_of text s).texts) m a) done
 put_to text s t x u m n a b done p q d e h k same = record {

@@ -28,8 +28,8 @@ loop-done-preserved g c =
     let pushed : vec_items c.push.new.self ≡ vec_items c.loop-done.log ++ (t ∷ []) = search rules in
     (ap (λ x. x.now) p.plan ∙ i.0, ap (λ x. x.now) p.names ∙ i.1, going_more i.2 t c.ask-call.result _ _ _ c.ask-call.ensures called right after pushed, search rules, search rules)
 
-pub returns-then-is-err : goal.returns-then-is-err
-returns-then-is-err g c =
+pub returns-then-is_err : goal.returns-then-is_err
+returns-then-is_err g c =
     let i = c.loop-done.invariant in
     let same : vec_items c.push.new.self ≡ vec_items c.loop-done.log = search rules in
     let few : c.loop-done.done ≤ c.args.turns = search rules in

@@ -74,7 +74,10 @@ pub invariant_of-self : goal.invariant_of-self
 invariant_of-self g c =
     let s = c.args.self.now in
     let fits : s.count < length s.stamps = search rules in
-    (omega (arith, c.if-count-ge-MOST_STAMPS.false), (among_more g.K.Kind.text s.plan.now s.names.now c.front-known.result.now c.names.result (g.K.Kind.text c.args.name) (length c.args.numbers.now) (length c.args.amounts.now) c.in_default.ensures c.names.ensures c.front-known.ensures c.in-Some-find.number c.in-Some-find.ensures s.stamps s.count fits s.among, tt))
+    record {
+      few = omega (arith, c.if-count-ge-MOST_STAMPS.false);
+      among = among_more g.K.Kind.text s.plan.now s.names.now c.front-known.result.now c.names.result (g.K.Kind.text c.args.name) (length c.args.numbers.now) (length c.args.amounts.now) c.in_default.ensures c.names.ensures c.front-known.ensures c.in-Some-find.number c.in-Some-find.ensures s.stamps s.count fits s.among;
+    }
 
 pub returns : goal.returns
 returns g c =

@@ -9,7 +9,7 @@ use Rattle.sheet.proofs.page.Sheet.strike.Goals as goal
 pub invariant_of-self : goal.invariant_of-self
 invariant_of-self g c =
     let s = c.args.self.now in
-    (omega (arith, s.few), (every_fewer _ _ s.count s.stamps (omega arith) s.among, tt))
+    record { few = omega (arith, s.few); among = every_fewer _ _ s.count s.stamps (omega arith) s.among }
 
 pub returns : goal.returns
 returns g c =
