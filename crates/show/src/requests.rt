@@ -43,15 +43,15 @@ pub fn request_of<K: Kind>(line: &[u8]) -> Request<K>
     if let Some(name) = line.strip_prefix(b"stamp ") {
         return stamp_of(name);
     }
-    if line == b"strike" {
+    if line == b"strike".as_slice() {
         Request::For(Call::Strike)
-    } else if line == b"next" {
+    } else if line == b"next".as_slice() {
         Request::For(Call::Next(FULL))
-    } else if line == b"distance" {
+    } else if line == b"distance".as_slice() {
         Request::For(Call::Distance(FULL))
-    } else if line == b"amount" {
+    } else if line == b"amount".as_slice() {
         Request::For(Call::Amount(FULL))
-    } else if line == b"reading" {
+    } else if line == b"reading".as_slice() {
         Request::For(Call::Reading(FULL))
     } else {
         Request::NoCall
