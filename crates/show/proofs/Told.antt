@@ -1,5 +1,7 @@
 -- What lines ask, and what the first call is.
 use Rattle.std.proofs.Common.{◌≡◌, ℕ, ◌+◌, ◌<◌, ◌≤◌, Bool, true, false, List, [], ◌∷◌, ◌++◌, length, Some, None, codes, Decides, Option, sym, refl, ap, ◌∙◌, subst, true≢false, arith}
+use Rattle.std.specs.Cmp.Lexicographic.{pointwise}
+use Rattle.std.specs.Prelude.{◌==◌}
 use Rattle.text.specs.Bytes.{between}
 use Rattle.sheet.specs.declared.words.Call.{Call}
 use Rattle.sheet.specs.declared.words.Call.TheVariants.{Stamp, Strike, Next, Distance, Amount, Reading}
@@ -16,6 +18,10 @@ nothing (b ∷ t) h = absurd (omega (arith, h))
 -- a test that failed
 pub differs : {A : Type 0} (r : Bool) → Decides r A → r ≡ false → A → ⊥
 differs r d f a = true≢false (sym (d.1 a) ∙ f)
+
+-- what was compared with a slice was compared with what it holds
+pub told : (s : List ℕ) {p q : List ℕ} {r : Bool} → p ≡ q → r ≡ pointwise ◌==◌ s p → r ≡ pointwise ◌==◌ s q
+told s e h = h ∙ ap (λ t. pointwise ◌==◌ s t) e
 
 -- a line that is that of no call
 pub no_call : {K : Type 0} (text : K → List ℕ) (has : List ℕ → Bool) (line : List ℕ)

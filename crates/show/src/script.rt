@@ -52,7 +52,7 @@ impl<'a> Script<'a> {
 }
 
 impl<'a, K: Kind, S> Clerk<K, S> for Script<'a> {
-    ghost asks = { λ c a k m. Takes text has c k m };
+    ghost asks = { λ c a k m. Takes K.text K.has c k m };
 
     fn ask(&mut self, _last: &Answer<S>) -> Call<K> {
         match next_call::<K>(self.lines, self.at) {
