@@ -3,7 +3,8 @@ use Rattle.std.proofs.Common.{◌≡◌, ℕ, zero, suc, ◌+◌, ◌<◌, ◌�
 use Rattle.std.proofs.lemmas.List.{length-append}
 use Rattle.std.proofs.lemmas.Bool.{cases_lt}
 use Rattle.std.specs.List.{flat_map}
-use Rattle.load.specs.Printed.{Put, Lacks, Appends, members}
+use Rattle.load.specs.Printed.{Put, Lacks, Appends}
+use Rattle.load.specs.JudgementLines.{members}
 use Rattle.load.proofs.Appending.{joined_append, then_more, lacks_later}
 
 one_more : (set : ℕ → Bool) (n : ℕ) (b : Bool) → set n ≡ b → members set (n + 1) ≡ members set n ++ cond b (n ∷ []) []

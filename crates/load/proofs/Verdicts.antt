@@ -12,7 +12,8 @@ use Rattle.load.specs.Files.{Placed, stamp_lines}
 use Rattle.plan.specs.Reads.{ReadAnswer}
 use Rattle.load.specs.Judged.{Opened, RefusedLine, RefusedFile, Judging, LeftAlone, OpeningAnswer, StampsJudged}
 use Rattle.load.specs.Gates.{StandsFor, Prints}
-use Rattle.load.specs.Printed.{Appends, refused_bytes}
+use Rattle.load.specs.Printed.{Appends}
+use Rattle.load.specs.JudgementLines.{refused_bytes}
 use Rattle.load.specs.declared.judgement.Judgement.{Judgement}
 use Rattle.plan.specs.declared.reading.Counts.{Counts}
 use Rattle.load.specs.declared.refusal.LoadRefusal.{LoadRefusal}

@@ -3,7 +3,7 @@ use Rattle.std.specs.Prelude.{◌≡◌, ℕ, Bool, List, ◌++◌, map, Ok, Err
 use Rattle.text.specs.Directory.{Text}
 use Rattle.plan.specs.declared.plan.Plan.{Plan}
 use Rattle.load.specs.Judged.{Judging}
-use Rattle.load.specs.Printed.{judgement_bytes, refused_bytes}
+use Rattle.load.specs.JudgementLines.{judgement_bytes, refused_bytes}
 use Rattle.load.specs.declared.judgement.Judgement.{Judgement}
 use Rattle.load.specs.declared.refusal.LoadError.{LoadError}
 use Rattle.load.specs.declared.refusal.LoadError.TheVariants.{Refused, Memory}

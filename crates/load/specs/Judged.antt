@@ -20,7 +20,7 @@ use Rattle.load.specs.Files.{Placed, Framed, plan_text, stamp_lines}
 use Rattle.load.specs.LoadRefusals.{counted_from}
 use Rattle.plan.specs.Reads.{counts_of}
 use Rattle.plan.specs.declared.reading.Counts.{Counts}
-use Rattle.load.specs.declared.judgement.Finished.{Finished}
+use Rattle.load.specs.declared.judgement.Completed.{Completed}
 use Rattle.load.specs.declared.judgement.Judgement.{Judgement}
 use Rattle.load.specs.declared.opening.Opening.{Opening}
 use Rattle.load.specs.declared.trailer.Frame.{Frame}
@@ -85,7 +85,7 @@ abbrev pub InFront : ℕ → List ℕ → List ℕ → Type 0
 InFront n before after = (n ≤ length after) × (drop n after ≡ drop n before)
 
 -- σ is finished exactly if it has a reading: then the amount is the join over all readings, and the first of them is listed
-abbrev pub Finishes : Ground → List Text → List ℕ → List ℕ → Option Finished → Type 0
+abbrev pub Finishes : Ground → List Text → List ℕ → List ℕ → Option Completed → Type 0
 Finishes g σ before after (Some f) =
     Amount amounts_joined start_amount amount_extended g.shape g.leaves g.texts σ (amount_of f.amount)
     × FirstReading g.shape g.leaves g.texts σ (take f.leaves after)

@@ -4,7 +4,7 @@ ghost use Rattle.sheet.specs.Calls.{Begins, short as lack, short_list as lack_li
 ghost use Rattle.sheet.specs.Views.{ground_of, stands_on};
 ghost use Rattle.load.specs.Judged.{AnswersOf, ToCome, Finishes, Lists};
 
-use super::judgement::{Finished, Judgement};
+use super::judgement::{Completed, Judgement};
 use plan::Counts;
 use sheet::{Bays, Pair, Sheet, Span};
 use text::Kind;
@@ -31,7 +31,7 @@ fn finished<K: Kind>(
     reading: &mut [u16],
     numbers: &mut [u16],
     amounts: &mut [Pair<Span, Bays>],
-) -> Option<Finished>
+) -> Option<Completed>
     requires enough { lack (length (ground_of K.text sheet.now).texts) (length numbers.old) (length amounts.old) ≡ None }
     requires room { lack_list (length (ground_of K.text sheet.now).texts) (length reading.old) (length numbers.old) (length amounts.old) ≡ None }
     ensures { Finishes (ground_of K.text sheet.now) (stands_on K.text sheet.now) reading.old reading.new result }
@@ -40,7 +40,7 @@ fn finished<K: Kind>(
         return None;
     };
     match sheet.reading(reading, numbers, amounts) {
-        Ok(leaves) => Some(Finished { amount, leaves }),
+        Ok(leaves) => Some(Completed { amount, leaves }),
         Err(_) => None,
     }
 }

@@ -4,8 +4,8 @@ ghost use Rattle.load.specs.Gates.{Prints};
 ghost use Rattle.load.specs.Judged.{lent_short};
 
 use super::judging::judge;
+use super::printing::{write_judgement, write_refused};
 use super::refusal::LoadError;
-use super::report::{write_judgement, write_refusal};
 use plan::Plan;
 use sheet::{Bays, Pair, Scale, Span};
 use std::alloc::{AllocError, Global};
@@ -28,7 +28,7 @@ fn print_judged<K: Kind>(
     match judge(heap, file, plan, names, reading, next, numbers, amounts) {
         Ok(judgement) => write_judgement(out, &judgement, names, reading, next),
         Err(error) => match error {
-            LoadError::Refused(refusal) => write_refusal(out, refusal),
+            LoadError::Refused(refusal) => write_refused(out, refusal),
             LoadError::Memory => Err(AllocError),
         },
     }

@@ -4,7 +4,7 @@ use sheet::{Bays, Pair, Span};
 
 /// What a sheet has whose stamps are a log of the plan.
 #[derive(Clone, Copy)]
-pub struct Finished {
+pub struct Completed {
     /// The least and the greatest sum of corrections over all readings, and the bays that every reading asks for.
     pub amount: Pair<Span, Bays>,
     /// How many leaves the first reading has, which stands in the buffer for it.
@@ -23,7 +23,7 @@ pub struct Judgement {
     /// The most stamps to come.
     pub most: usize,
     /// None where the stamps have no reading.
-    pub finished: Option<Finished>,
+    pub finished: Option<Completed>,
     /// How many names may follow, whose numbers stand in the buffer for them.
     pub next: usize,
 }

@@ -1,113 +1,78 @@
 //! The lines that a load file's judgement is printed in.
-ghost use Rattle.std.specs.Prelude.{◌≡◌, ◌++◌, map, take, Some};
-ghost use Rattle.std.specs.List.{flat_map};
-ghost use Rattle.engine.specs.Scales.{bays_of};
-ghost use Rattle.load.specs.Printed.{Appends, field, members, span_line, bays_line, finished_lines, report_bytes, judgement_bytes, refused_bytes};
+ghost use Rattle.std.specs.Prelude.{◌++◌, Some};
+ghost use Rattle.load.specs.Printed.{Appends, span_line, finished_lines, report_bytes, refusal_line};
 
-use super::judgement::{Finished, Judgement};
-use super::names::write_next;
-use super::print::{list_line, number_line, push_field, push_signed, push_text};
-use super::refusal::LoadRefusal;
-use sheet::{Bays, Span};
+use super::print::{list_line, number_line, push_signed, push_text};
 use std::alloc::AllocError;
-use text::Kind;
 
-// How many bays there may be.
-const BAYS: u8 = 64;
+/// What a sheet has whose stamps are a log of the plan.
+#[derive(Clone, Copy)]
+pub struct Finished<'a> {
+    /// The least sum of corrections over all readings.
+    pub low: i32,
+    /// The greatest.
+    pub high: i32,
+    /// The bays that every reading asks for, rising.
+    pub bays: &'a [u16],
+    /// The leaves of the first reading.
+    pub reading: &'a [u16],
+}
 
-// The first so many of a list, or all where it has no more.
-fn front(list: &[u16], count: usize) -> &[u16]
-    ensures { result.now ≡ take count list.now }
-{
-    if count < list.len() {
-        return &list[0..count];
-    }
-    list
+/// What is printed of a load file that is not refused, up to the names that may follow.
+#[derive(Clone, Copy)]
+pub struct Report<'a> {
+    pub items: usize,
+    pub vertices: usize,
+    pub width: usize,
+    pub cuts: usize,
+    /// How many stamps stand.
+    pub stamps: usize,
+    /// The fewest stamps to come.
+    pub fewest: usize,
+    /// The most stamps to come.
+    pub most: usize,
+    /// None where the stamps have no reading.
+    pub finished: Option<Finished<'a>>,
 }
 
 // The line of the least and the greatest correction.
-fn write_span(out: &mut Vec<u8>, span: &Span) -> Result<(), AllocError>
-    ensures { Appends (span_line span.now.low span.now.high) out.old out.new result }
+fn write_span(out: &mut Vec<u8>, finished: &Finished) -> Result<(), AllocError>
+    ensures { Appends (span_line finished.now.low finished.now.high) out.old out.new result }
 {
     push_text(out, b"span")?;
-    push_signed(out, span.low)?;
-    push_signed(out, span.high)?;
-    push_text(out, b"\n")
-}
-
-// Puts a space and a bay behind what is there, for each of a set, rising.
-fn push_bays(out: &mut Vec<u8>, bays: &Bays) -> Result<(), AllocError>
-    ensures { Appends (flat_map field (members (bays_of bays.now) 64)) out.old out.new result }
-{
-    for bay in 0..BAYS {
-        if bays.holds(bay) {
-            push_field(out, usize::from(bay))?;
-        }
-    }
-    Ok(())
-}
-
-// The line of the bays that every reading asks for.
-fn write_bays(out: &mut Vec<u8>, bays: &Bays) -> Result<(), AllocError>
-    ensures { Appends (bays_line (bays_of bays.now)) out.old out.new result }
-{
-    push_text(out, b"bays")?;
-    push_bays(out, bays)?;
+    push_signed(out, finished.low)?;
+    push_signed(out, finished.high)?;
     push_text(out, b"\n")
 }
 
 // The lines of a sheet that has a reading.
-fn write_finished(out: &mut Vec<u8>, finished: &Finished, reading: &[u16]) -> Result<(), AllocError>
-    ensures { Appends (finished_lines reading.now (Some finished.now)) out.old out.new result }
+fn write_finished(out: &mut Vec<u8>, finished: &Finished) -> Result<(), AllocError>
+    ensures { Appends (finished_lines (Some finished.now)) out.old out.new result }
 {
-    write_span(out, &finished.amount.first)?;
-    write_bays(out, &finished.amount.second)?;
-    list_line(out, b"reading", front(reading, finished.leaves))
+    write_span(out, finished)?;
+    list_line(out, b"bays", finished.bays)?;
+    list_line(out, b"reading", finished.reading)
 }
 
 /// Puts the first five lines behind what is there; where the stamps have no reading, the last three of them end in ` -`.
-pub fn write_report(
-    out: &mut Vec<u8>,
-    judgement: &Judgement,
-    reading: &[u16],
-) -> Result<(), AllocError>
-    ensures { Appends (report_bytes reading.now judgement.now) out.old out.new result }
+pub fn write_report(out: &mut Vec<u8>, report: &Report) -> Result<(), AllocError>
+    ensures { Appends (report_bytes report.now) out.old out.new result }
 {
-    let counts = judgement.counts;
     number_line(
         out,
         b"plan",
-        &[counts.items, counts.vertices, counts.width, counts.cuts],
+        &[report.items, report.vertices, report.width, report.cuts],
     )?;
-    number_line(
-        out,
-        b"stamps",
-        &[judgement.stamps, judgement.fewest, judgement.most],
-    )?;
-    match &judgement.finished {
-        Some(finished) => write_finished(out, finished, reading),
+    number_line(out, b"stamps", &[report.stamps, report.fewest, report.most])?;
+    match &report.finished {
+        Some(finished) => write_finished(out, finished),
         None => push_text(out, b"span -\nbays -\nreading -\n"),
     }
 }
 
-/// Puts all six lines behind what is there, with the first reading and the names that may follow from their buffers.
-pub fn write_judgement<K: Kind>(
-    out: &mut Vec<u8>,
-    judgement: &Judgement,
-    names: &[K],
-    reading: &[u16],
-    next: &[u16],
-) -> Result<(), AllocError>
-    ensures { Appends (judgement_bytes reading.now (map K.text names.now) next.now judgement.now) out.old out.new result }
-{
-    write_report(out, judgement, reading)?;
-    write_next(out, names, front(next, judgement.next))
-}
-
 /// Puts the line of a refused file behind what is there: the refusal's number and its place.
-pub fn write_refusal(out: &mut Vec<u8>, refusal: LoadRefusal) -> Result<(), AllocError>
-    ensures { Appends (refused_bytes refusal) out.old out.new result }
+pub fn write_refusal(out: &mut Vec<u8>, number: u8, place: usize) -> Result<(), AllocError>
+    ensures { Appends (refusal_line number place) out.old out.new result }
 {
-    let (number, place) = refusal.number_and_place();
     number_line(out, b"refused", &[usize::from(number), place])
 }

@@ -1,5 +1,5 @@
 use Rattle.std.proofs.Common.{map, Ok, Err, refl}
-use Rattle.load.specs.Printed.{judgement_bytes, refused_bytes}
+use Rattle.load.specs.JudgementLines.{judgement_bytes, refused_bytes}
 use Rattle.load.proofs.Verdicts.{prints, prints_refused}
 use Rattle.load.proofs.gate.print_judged.Goals as goal
 
@@ -13,4 +13,4 @@ returns-in-Ok g c =
 pub returns-in-Refused : goal.returns-in-Refused
 returns-in-Refused g c =
     prints_refused g.K.Kind.text g.K.Kind.has _ _ c.judge.new.names c.judge.new.plan _ c.judge.new.reading _ c.judge.new.next _ c.in-Err.error c.in-Refused.refusal
-    c.in-Refused.is c.in-Err.ensures.answer c.args.out.now c.write_refusal.new.out c.write_refusal.result c.write_refusal.ensures
+    c.in-Refused.is c.in-Err.ensures.answer c.args.out.now c.write_refused.new.out c.write_refused.result c.write_refused.ensures

@@ -8,8 +8,8 @@ use Rattle.load.proofs.report.write_span.Goals as goal
 
 pub returns-in_err-push_signed : goal.returns-in_err-push_signed
 returns-in_err-push_signed c =
-    let low = c.args.span.now.low in
-    let high = c.args.span.now.high in
+    let low = c.args.finished.now.low in
+    let high = c.args.finished.now.high in
     let f : SFits w32 low = search rules in
     let p = err_from_is_err_and c.from_residual-in_err-push_signed.result c.from_residual-in_err-push_signed.ensures.1 in
     retold _ _ c.args.out.now c.push_signed.new.out c.from_residual-in_err-push_signed.result (pair_line (codes "span") (spaced (signed_decimal low)) (spaced (signed_decimal high)) (10 ∷ []))
@@ -19,8 +19,8 @@ returns-in_err-push_signed c =
 
 pub returns-in_err-push_signed-2 : goal.returns-in_err-push_signed-2
 returns-in_err-push_signed-2 c =
-    let low = c.args.span.now.low in
-    let high = c.args.span.now.high in
+    let low = c.args.finished.now.low in
+    let high = c.args.finished.now.high in
     let f : SFits w32 low = search rules in
     let g : SFits w32 high = search rules in
     let p = err_from_is_err_and c.from_residual-in_err-push_signed-2.result c.from_residual-in_err-push_signed-2.ensures.1 in
@@ -33,8 +33,8 @@ returns-in_err-push_signed-2 c =
 
 pub returns : goal.returns
 returns c =
-    let low = c.args.span.now.low in
-    let high = c.args.span.now.high in
+    let low = c.args.finished.now.low in
+    let high = c.args.finished.now.high in
     let f : SFits w32 low = search rules in
     let g : SFits w32 high = search rules in
     retold _ _ c.args.out.now c.push_text-2.new.out c.push_text-2.result (pair_line (codes "span") (spaced (signed_decimal low)) (spaced (signed_decimal high)) (10 ∷ []))

@@ -2,10 +2,11 @@ use Rattle.std.proofs.Common.{◌≡◌, ◌+◌, true, sym, ◌∙◌, subst, a
 use Rattle.std.specs.List.{flat_map}
 use Rattle.std.proofs.lemmas.Result.{err_from_is_err_and}
 use Rattle.engine.specs.Scales.{bays_of}
-use Rattle.load.specs.Printed.{Put, Lacks, field, members}
+use Rattle.load.specs.Printed.{Put, Lacks, field}
+use Rattle.load.specs.JudgementLines.{members}
 use Rattle.load.proofs.Members.{put_no_member, put_member, put_other, lacks_members}
-use Rattle.load.proofs.report.push_bays.Goals as goal
-use Rattle.load.proofs.report.push_bays.Goals.{then-holds+in_ok-push_field, else-holds}
+use Rattle.load.proofs.printing.push_bays.Goals as goal
+use Rattle.load.proofs.printing.push_bays.Goals.{then-holds+in_ok-push_field, else-holds}
 
 pub loop-bay-init : goal.loop-bay-init
 loop-bay-init c = put_no_member field (bays_of c.args.bays.now) c.args.out.now

@@ -2,9 +2,10 @@ use Rattle.std.proofs.Common.{[], ◌∷◌, ◌++◌, codes}
 use Rattle.std.specs.List.{flat_map}
 use Rattle.std.proofs.lemmas.Result.{err_from_is_err_and}
 use Rattle.engine.specs.Scales.{bays_of}
-use Rattle.load.specs.Printed.{field, members}
+use Rattle.load.specs.Printed.{field}
+use Rattle.load.specs.JudgementLines.{members}
 use Rattle.load.proofs.Appending.{then_more, lacks_more, lacks_later, stop}
-use Rattle.load.proofs.report.write_bays.Goals as goal
+use Rattle.load.proofs.printing.write_bays.Goals as goal
 
 pub returns-in_err-push_bays : goal.returns-in_err-push_bays
 returns-in_err-push_bays c =
