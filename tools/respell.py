@@ -4,9 +4,9 @@
 usage: python3 tools/respell.py [--dry] [FOLDER]
 
 A name with dashes is written in snake case, and in upper camel case where it begins with a capital: `within-limits`
-becomes `within_limits`, and `Walks-read-permitted` becomes `WalksReadPermitted`. Four names get another
-one, since the plain one is taken: `ground` is a tactic today, and the others would fall together with names that stand beside
-them. Touched are the names that a line of specs/ or proofs/ declares and the names given by `as`, wherever they stand in
+becomes `within_limits`, and `Walks-read-permitted` becomes `WalksReadPermitted`. Some names get another
+one: `ground` is a tactic today, three would fall together with names that stand beside them, four the kit's script had left
+half respelled, and a few lemmas name functions that are called otherwise today. Touched are the names that a line of specs/ or proofs/ declares and the names given by `as`, wherever they stand in
 .antt files, in ghost lines and clauses of .rt files, and in must-fail edits; names of src/, of std and of goals stay.
 It was run once, on what the kit's own script for older repositories had left.
 """
@@ -24,7 +24,31 @@ GHOST = re.compile(r"^\s*(?:ghost|requires|ensures|old:|new:)\b")
 # a name of std's that a file here declares as well
 KEPT = {"drop-drop"}
 # names that cannot be spelled by the rule
-OTHER = {"ground": "ground_over", "bit-and": "bit-bit_and", "bit-or": "bit-bit_or", "No-name": "HasNoName"}
+OTHER = {
+    "ground": "ground_over",
+    "bit-and": "bit-bit_and",
+    "bit-or": "bit-bit_or",
+    "No-name": "HasNoName",
+    "Laid_out": "LaidOut",
+    "Goes_on": "GoesOn",
+    "Bytes_of": "BytesOf",
+    "Item_at": "ItemAt",
+    "pairwise-getD": "pairwise-get_or",
+    "row-getD": "row-get_or",
+    "getD-mem": "get_or-mem",
+    "getD-end": "get_or-end",
+    "mem-getD": "mem-get_or",
+    "getD-map": "get_or-map",
+    "getD-drop": "get_or-drop",
+    "minZ-turned": "int_min-turned",
+    "minZ-self": "int_min-self",
+    "minZ-spreads": "int_min-spreads",
+    "minZ-assoc": "int_min-assoc",
+    "maxZ-turned": "int_max-turned",
+    "maxZ-self": "int_max-self",
+    "maxZ-spreads": "int_max-spreads",
+    "maxZ-assoc": "int_max-assoc",
+}
 
 
 def parts_of(line):
@@ -67,7 +91,7 @@ def names(top):
                         found.add(alias)
                     if "-" in name and not own(top, m[1]):
                         foreign.add(name)
-    return (found - foreign - KEPT) | {"ground"}, found & foreign
+    return (found - foreign - KEPT) | {n for n in OTHER if "-" not in n}, found & foreign
 
 
 def respelled(line, which, ghost_only):

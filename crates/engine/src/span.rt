@@ -1,6 +1,6 @@
 ghost use Rattle.std.specs.Prelude.{ℤ};
 ghost use Rattle.engine.specs.Scales.{no_span, wider, moved_by};
-ghost use Rattle.engine.specs.Signs.{minZ_assoc, maxZ_assoc, minZ_spreads, maxZ_spreads};
+ghost use Rattle.engine.specs.Signs.{int_min-assoc, int_max-assoc, int_min-spreads, int_max-spreads};
 ghost use Rattle.std.proofs.Common.{rules};
 
 use super::scale::Scale;
@@ -28,9 +28,9 @@ impl Scale for Span {
 
     ghost comm = { Prim.search rules };
 
-    ghost assoc = { λ x y z i. (minZ_assoc x.0 y.0 z.0 i, maxZ_assoc x.1 y.1 z.1 i) };
+    ghost assoc = { λ x y z i. (int_min-assoc x.0 y.0 z.0 i, int_max-assoc x.1 y.1 z.1 i) };
 
-    ghost spreads = { λ x y m i. (minZ_spreads x.0 y.0 m.correction i, maxZ_spreads x.1 y.1 m.correction i) };
+    ghost spreads = { λ x y m i. (int_min-spreads x.0 y.0 m.correction i, int_max-spreads x.1 y.1 m.correction i) };
 
     fn begin() -> Span {
         Span { low: 0, high: 0 }

@@ -4,7 +4,7 @@ use Rattle.std.proofs.lemmas.Bool.Decides.{nat_tests}
 use Rattle.text.specs.Bytes.{digit, name_byte}
 use Rattle.meaning.specs.Shape.{Sort, lock, choice, interleave}
 use Rattle.grammar.specs.Written.{sign_of}
-use Rattle.grammar.specs.Form.{least, most, Bytes_of, last_byte, more_bytes, Digits, Correction, unsigned, negative, Bay, in_bay, Marks, no_mark, correction_only, bay_only, both_marks, blank_leaf, name_leaf, an_item, a-plan, some_plans, Form, Goes_on, whole_leaf, whole_bracket, one_item, more_items, last_plan, more_plans}
+use Rattle.grammar.specs.Form.{least, most, BytesOf, last_byte, more_bytes, Digits, Correction, unsigned, negative, Bay, in_bay, Marks, no_mark, correction_only, bay_only, both_marks, blank_leaf, name_leaf, an_item, a-plan, some_plans, Form, GoesOn, whole_leaf, whole_bracket, one_item, more_items, last_plan, more_plans}
 use Rattle.grammar.specs.Machine.{Mode, fresh, opening, naming, colon, negating, shifting, at, housing, ended, Frame, State, dead, live, ends, step, run, accepts}
 use Rattle.grammar.proofs.MachineRuns.{run_++, run_dead, never, through, dot_step}
 
@@ -47,7 +47,7 @@ data Bytes (kind : ℕ → Bool) : List ℕ → Type 0 where
   no_bytes : Bytes kind []
   one_more : {b : ℕ} {w : List ℕ} → kind b ≡ true → Bytes kind w → Bytes kind (b ∷ w)
 
-as_run : {kind : ℕ → Bool} {b : ℕ} {w : List ℕ} → kind b ≡ true → Bytes kind w → Bytes_of kind (b ∷ w)
+as_run : {kind : ℕ → Bool} {b : ℕ} {w : List ℕ} → kind b ≡ true → Bytes kind w → BytesOf kind (b ∷ w)
 as_run k no_bytes = last_byte k
 as_run k (one_more l h) = more_bytes k (as_run l h)
 
@@ -257,11 +257,11 @@ completes fs negating = by (live fs negating) (live fs shifting) 49 refl (dot_co
 completes fs at = by (live fs at) (live fs housing) 49 refl (dot_completes fs housing refl)
 
 -- the machine lives on just the texts that go on
-pub lives_goes_on : (t : List ℕ) (fs : List Frame) (m : Mode) → run (live [] fresh) t ≡ live fs m → Goes_on t
+pub lives_goes_on : (t : List ℕ) (fs : List Frame) (m : Mode) → run (live [] fresh) t ≡ live fs m → GoesOn t
 lives_goes_on t fs m e =
     let c = completes fs m in
     (c.0, accepted (t ++ c.0) (ap accepts (run_++ (live [] fresh) t c.0 ∙ ap (λ s. run s c.0) e) ∙ c.1))
 
-pub goes_on_lives : (t : List ℕ) → Goes_on t → run (live [] fresh) t ≡ dead → ⊥
+pub goes_on_lives : (t : List ℕ) → GoesOn t → run (live [] fresh) t ≡ dead → ⊥
 goes_on_lives t (u, f) e =
     never (ap accepts (sym (run_dead u) ∙ (ap (λ s. run s u) (sym e) ∙ sym (run_++ (live [] fresh) t u))) ∙ accepts_form f)

@@ -4,7 +4,7 @@ use Rattle.std.proofs.lemmas.List.{get_or_past}
 use Rattle.std.proofs.lemmas.Bool.{cases_lt}
 use Rattle.grammar.specs.Machine.{Mode, fresh, opening, naming, colon, negating, shifting, at, housing, ended, Frame, State, dead, live, ends, step, run}
 use Rattle.grammar.specs.Faults.{before, leaf_byte, sign_byte, begun, count_from, count}
-use Rattle.grammar.specs.Readings.{occurrences, brackets_before, closed_before, leaf_begins, leaves_in, leaves_before, Item_at}
+use Rattle.grammar.specs.Readings.{occurrences, brackets_before, closed_before, leaf_begins, leaves_in, leaves_before, ItemAt}
 use Rattle.grammar.proofs.MachineRuns.{run_++, run_dead, never}
 use Rattle.grammar.proofs.MachineBridge.{lives_goes_on, goes_on_lives}
 use Rattle.grammar.proofs.MachineSteps.{advance, alive_clash, is_fresh, is_colon, is_at, pending, open_in, Told, told}
@@ -81,11 +81,11 @@ blank_fresh (live fs at) n = absurd (n refl)
 blank_fresh (live fs housing) n = absurd (n (no_blank fs))
 blank_fresh (live fs ended) n = absurd (n (no_blank fs))
 
-pub item_fresh : (t : List ℕ) (p : ℕ) → Item_at t p → (fs : List Frame) × (before t p ≡ live fs fresh)
+pub item_fresh : (t : List ℕ) (p : ℕ) → ItemAt t p → (fs : List Frame) × (before t p ≡ live fs fresh)
 item_fresh t p i =
     blank_fresh (before t p) (λ e. goes_on_lives (take p t ++ (95 ∷ [])) i.item_next (run_++ (live [] fresh) (take p t) (95 ∷ []) ∙ e))
 
-pub fresh_item : (t : List ℕ) (p : ℕ) (fs : List Frame) → p < length t → before t p ≡ live fs fresh → Item_at t p
+pub fresh_item : (t : List ℕ) (p : ℕ) (fs : List Frame) → p < length t → before t p ≡ live fs fresh → ItemAt t p
 fresh_item t p fs w h = record {
   inside = w;
   item_next = lives_goes_on (take p t ++ (95 ∷ [])) fs ended (run_++ (live [] fresh) (take p t) (95 ∷ []) ∙ ap (λ s. step s 95) h);

@@ -4,7 +4,7 @@ use Rattle.std.proofs.lemmas.Bool.Decides.{nat_tests}
 use Rattle.text.specs.Bytes.{digit, name_byte}
 use Rattle.meaning.specs.Shape.{Sort, lock, choice, interleave}
 use Rattle.grammar.specs.Written.{sign_of}
-use Rattle.grammar.specs.Form.{least, most, Bytes_of, last_byte, more_bytes, Digits, NameRun, Correction, unsigned, negative, Bay, in_bay, Marks, no_mark, correction_only, bay_only, both_marks, Leaf, blank_leaf, name_leaf, Phrase, an_item, a-plan, some_plans, Form, whole_leaf, whole_bracket, one_item, more_items, last_plan, more_plans}
+use Rattle.grammar.specs.Form.{least, most, BytesOf, last_byte, more_bytes, Digits, NameRun, Correction, unsigned, negative, Bay, in_bay, Marks, no_mark, correction_only, bay_only, both_marks, Leaf, blank_leaf, name_leaf, Phrase, an_item, a-plan, some_plans, Form, whole_leaf, whole_bracket, one_item, more_items, last_plan, more_plans}
 use Rattle.grammar.specs.Machine.{Mode, fresh, opening, naming, colon, negating, shifting, at, housing, ended, Frame, State, dead, live, ends, step, run, ending}
 
 pub run_++ : (s : State) (t u : List ℕ) → run s (t ++ u) ≡ run (run s t) u
@@ -16,7 +16,7 @@ run_dead [] = refl
 run_dead (b ∷ t) = run_dead t
 
 -- a run of one kind, by a mode that keeps
-pub enters : {kind : ℕ → Bool} {w : List ℕ} (s r : State) → ((b : ℕ) → kind b ≡ true → step s b ≡ r) → ((b : ℕ) → kind b ≡ true → step r b ≡ r) → Bytes_of kind w → run s w ≡ r
+pub enters : {kind : ℕ → Bool} {w : List ℕ} (s r : State) → ((b : ℕ) → kind b ≡ true → step s b ≡ r) → ((b : ℕ) → kind b ≡ true → step r b ≡ r) → BytesOf kind w → run s w ≡ r
 enters s r f g (last_byte k) = f _ k
 enters s r f g (more_bytes {b} {w} k h) = subst (λ x. run x w ≡ r) (sym (f b k)) (enters r r g g h)
 

@@ -1,6 +1,6 @@
 -- The grammar and the machine agree, on whole texts, on their beginnings and on every refusal.
 use Rattle.std.specs.Prelude.{◌≡◌, ℕ, Bool, true, ◌↔◌, List, []}
-use Rattle.grammar.specs.Form.{Form, a-plan, Goes_on}
+use Rattle.grammar.specs.Form.{Form, a-plan, GoesOn}
 use Rattle.grammar.specs.Machine.{Mode, fresh, Frame, live, run, accepts}
 use Rattle.grammar.specs.Faults.{Refuses, First}
 use Rattle.grammar.specs.Readings.{RefusedAt, FirstRefused, Unrefused}
@@ -12,7 +12,7 @@ FormsAreAccepted = (t : List ℕ) → Form a-plan t ↔ (accepts (run (live [] f
 
 -- it lives on exactly the texts with which some text of the form begins
 abbrev pub BeginningsLive : Type 0
-BeginningsLive = (t : List ℕ) → Goes_on t ↔ ((fs : List Frame) × (m : Mode) × (run (live [] fresh) t ≡ live fs m))
+BeginningsLive = (t : List ℕ) → GoesOn t ↔ ((fs : List Frame) × (m : Mode) × (run (live [] fresh) t ≡ live fs m))
 
 -- it refuses exactly what the grammar refuses
 abbrev pub RefusalsAgree : Type 0

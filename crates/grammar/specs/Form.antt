@@ -17,17 +17,17 @@ most choice = 8
 most interleave = 8
 
 -- one byte or more, all passing a test
-pub data Bytes_of (test : ℕ → Bool) : List ℕ → Type 0 where
-  last_byte : {b : ℕ} → test b ≡ true → Bytes_of test (b ∷ [])
-  more_bytes : {b : ℕ} {w : List ℕ} → test b ≡ true → Bytes_of test w → Bytes_of test (b ∷ w)
+pub data BytesOf (test : ℕ → Bool) : List ℕ → Type 0 where
+  last_byte : {b : ℕ} → test b ≡ true → BytesOf test (b ∷ [])
+  more_bytes : {b : ℕ} {w : List ℕ} → test b ≡ true → BytesOf test w → BytesOf test (b ∷ w)
 
 -- the digits of a number
 abbrev pub Digits : List ℕ → Type 0
-Digits w = Bytes_of digit w
+Digits w = BytesOf digit w
 
 -- the bytes of a name: lower-case letters and digits
 abbrev pub NameRun : List ℕ → Type 0
-NameRun w = Bytes_of name_byte w
+NameRun w = BytesOf name_byte w
 
 -- a correction: `:`, an optional `-`, and digits
 pub data Correction : List ℕ → Type 0 where
@@ -70,5 +70,5 @@ pub data Form : Phrase → List ℕ → Type 0 where
       → k < most s → Form a-plan w → Form (some_plans s (suc k)) v → Form (some_plans s k) (w ++ (44 ∷ v))
 
 -- some text of the form begins so
-abbrev pub Goes_on : List ℕ → Type 0
-Goes_on t = (u : List ℕ) × Form a-plan (t ++ u)
+abbrev pub GoesOn : List ℕ → Type 0
+GoesOn t = (u : List ℕ) × Form a-plan (t ++ u)

@@ -5,7 +5,7 @@ use Rattle.text.specs.Bytes.{digit, name_byte, between, Longest}
 use Rattle.text.specs.Decimal.{says}
 use Rattle.meaning.specs.Shape.{Sort}
 use Rattle.grammar.specs.Written.{sign_of}
-use Rattle.grammar.specs.Form.{Form, a-plan, Goes_on}
+use Rattle.grammar.specs.Form.{Form, a-plan, GoesOn}
 use Rattle.grammar.specs.Refusals.{code}
 use Rattle.grammar.specs.declared.refusal.Refusal.{Refusal}
 use Rattle.grammar.specs.declared.refusal.Refusal.TheVariants as refusal
@@ -13,18 +13,18 @@ use Rattle.grammar.specs.declared.refusal.Refusal.TheVariants as refusal
 -- refusal 2: p is the first byte with which no text of the form goes on, or the length where the text ends early
 pub record Stops (t : List ℕ) (p : ℕ) : Type 0 where
   pub within : p ≤ length t
-  pub so_far : Goes_on (take p t)
-  pub no_further : p < length t → Goes_on (take (p + 1) t) → ⊥
+  pub so_far : GoesOn (take p t)
+  pub no_further : p < length t → GoesOn (take (p + 1) t) → ⊥
   pub early : p ≡ length t → Form a-plan t → ⊥
 
 -- an item begins at p: the text up to p goes on with `_`, which stands only where an item begins
-pub record Item_at (t : List ℕ) (p : ℕ) : Type 0 where
+pub record ItemAt (t : List ℕ) (p : ℕ) : Type 0 where
   pub inside : p < length t
-  pub item_next : Goes_on (take p t ++ (95 ∷ []))
+  pub item_next : GoesOn (take p t ++ (95 ∷ []))
 
 -- refusal 3: an item begins at p with a byte of a name, and the longest run of such bytes is no name of the kind
 pub record HasNoName (has : List ℕ → Bool) (t : List ℕ) (p : ℕ) : Type 0 where
-  pub item_here : Item_at t p
+  pub item_here : ItemAt t p
   pub name_here : name_byte (slice_index t p) ≡ true
   pub to : ℕ
   pub longest : Longest name_byte t p to
@@ -46,7 +46,7 @@ pub data WrongMark (t : List ℕ) (p : ℕ) : Type 0 where
 -- refusal 4: the text up to p goes on, and the mark whose `:` or `@` stands last in it is wrong
 pub record BadMark (t : List ℕ) (p : ℕ) : Type 0 where
   pub behind : 0 < p
-  pub goes_on : Goes_on (take p t)
+  pub goes_on : GoesOn (take p t)
   pub wrong : WrongMark t p
 
 -- how often a byte stands in a text
@@ -81,13 +81,13 @@ leaves_before t p = leaves_in true (take p t)
 
 -- a bracket's sign stands at p, where an item begins
 pub record BracketAt (t : List ℕ) (p : ℕ) : Type 0 where
-  pub item_here : Item_at t p
+  pub item_here : ItemAt t p
   pub of_sort : Sort
   pub sign_here : slice_index_or t p 0 ≡ sign_of of_sort
 
 -- a leaf's first byte stands at p, where an item begins
 pub record LeafAt (t : List ℕ) (p : ℕ) : Type 0 where
-  pub item_here : Item_at t p
+  pub item_here : ItemAt t p
   pub leaf_here : leaf_begins (slice_index t p) ≡ true
 
 -- refusal 5: a bracket at p, with 16 open already

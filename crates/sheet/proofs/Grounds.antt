@@ -8,7 +8,7 @@ use Rattle.meaning.specs.Strands.{Piece, flat, Shuffle, none, fromˡ, fromʳ, St
 use Rattle.grammar.specs.Written.{no_leaf}
 use Rattle.meaning.specs.Limits.{Limited, well_formed, within_limits}
 use Rattle.meaning.specs.Plans.{first_cut, last_cut, WalkedWhole}
-use Rattle.spots.specs.Rows.{Laid_out}
+use Rattle.spots.specs.Rows.{LaidOut}
 use Rattle.meaning.specs.Walks.{Walk}
 use Rattle.meaning.specs.CutOrder.{cut_list}
 use Rattle.grammar.specs.Ranges.{marks_fit}
@@ -68,7 +68,7 @@ module _ (p : Plan) where
   pub whole : WalkedWhole shape
   whole = plans_are_walked shape formed
 
-  pub laid_out : Laid_out shape (cut_list shape) plan_moves
+  pub laid_out : LaidOut shape (cut_list shape) plan_moves
   laid_out = plans_are_laid shape formed
 
   pub name_number : p.names ≤ 128

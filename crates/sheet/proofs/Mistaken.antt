@@ -14,26 +14,26 @@ use Rattle.engine.specs.Joined.{over}
 use Rattle.sheet.specs.Mistakes.{keep_first, SpanBy, KeepingIsMistaken}
 use Rattle.engine.specs.Scales.{no_span, wider, moved_by}
 use Rattle.engine.proofs.Closure.{Laws, joined_unique}
-use Rattle.engine.specs.Signs.{minZ_assoc, maxZ_assoc}
+use Rattle.engine.specs.Signs.{int_min-assoc, int_max-assoc}
 use Rattle.sheet.proofs.Working.{two_readings, twice, corrected_span}
 
-minZ_self : (x : ℤ) → int_min x x ≡ x
-minZ_self x = omega (arith, ints, clamps)
+int_min-self : (x : ℤ) → int_min x x ≡ x
+int_min-self x = omega (arith, ints, clamps)
 
-maxZ_self : (x : ℤ) → int_max x x ≡ x
-maxZ_self x = omega (arith, ints, clamps)
+int_max-self : (x : ℤ) → int_max x x ≡ x
+int_max-self x = omega (arith, ints, clamps)
 
-minZ_turned : (x y : ℤ) → int_min x y ≡ int_min y x
-minZ_turned x y = omega (arith, ints, clamps)
+int_min-turned : (x y : ℤ) → int_min x y ≡ int_min y x
+int_min-turned x y = omega (arith, ints, clamps)
 
-maxZ_turned : (x y : ℤ) → int_max x y ≡ int_max y x
-maxZ_turned x y = omega (arith, ints, clamps)
+int_max-turned : (x y : ℤ) → int_max x y ≡ int_max y x
+int_max-turned x y = omega (arith, ints, clamps)
 
 laws : Laws wider
 laws = record {
-  idem = λ x. λ i. (minZ_self x.0 i, maxZ_self x.1 i);
-  comm = λ x y. λ i. (minZ_turned x.0 y.0 i, maxZ_turned x.1 y.1 i);
-  assoc = λ x y z. λ i. (minZ_assoc x.0 y.0 z.0 i, maxZ_assoc x.1 y.1 z.1 i);
+  idem = λ x. λ i. (int_min-self x.0 i, int_max-self x.1 i);
+  comm = λ x y. λ i. (int_min-turned x.0 y.0 i, int_max-turned x.1 y.1 i);
+  assoc = λ x y z. λ i. (int_min-assoc x.0 y.0 z.0 i, int_max-assoc x.1 y.1 z.1 i);
 }
 
 -- the amount is one
