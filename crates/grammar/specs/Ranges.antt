@@ -1,5 +1,5 @@
 -- Marks within their ranges.
-use Rattle.std.specs.Prelude.{ℕ, ◌<◌, Bool, true, ◌&&◌, ℤ, pos, negsuc, Some, None, Option, nat_lt}
+use Rattle.std.specs.Prelude.{ℕ, ◌<◌, ℤ, pos, negsuc, Some, None, Option}
 use Rattle.grammar.specs.declared.leaf.Marks.{Marks}
 
 -- a correction lies from -32,768 to 32,767
@@ -14,15 +14,3 @@ BayInRange (Some b) = b < 64
 
 abbrev pub InRange : Marks → Type 0
 InRange m = CorrectionInRange m.correction × BayInRange m.bay
-
--- the same as tests
-abbrev pub correction_fits : ℤ → Bool
-correction_fits (pos n) = nat_lt n 32768
-correction_fits (negsuc n) = nat_lt n 32768
-
-abbrev pub bay_fits : Option ℕ → Bool
-bay_fits None = true
-bay_fits (Some b) = nat_lt b 64
-
-abbrev pub marks_fit : Marks → Bool
-marks_fit m = correction_fits m.correction && bay_fits m.bay

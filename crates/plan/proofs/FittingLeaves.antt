@@ -4,7 +4,6 @@ use Rattle.std.proofs.lemmas.Bool.{ltb-true, and_parts}
 use Rattle.meaning.specs.Counts.{free_cuts, locked_cuts, width}
 use Rattle.plan.specs.LeafFit.{leaf_kinds, name_fits, leaf_fits, all_fit, leaves_fit}
 use Rattle.meaning.specs.Limits.{Limited, brackets}
-use Rattle.grammar.specs.Ranges.{InRange, marks_fit}
 use Rattle.plan.specs.Reads.{counts_of}
 use Rattle.layout.specs.Sizes.{capped}
 use Rattle.meaning.specs.Shape.{Shape, leaf, bracket, join, leaves, items}
@@ -15,7 +14,6 @@ use Rattle.grammar.specs.declared.leaf.Leaf.{Leaf}
 use Rattle.plan.specs.declared.plan.Plan.{Plan}
 use Rattle.plan.specs.declared.reading.Counts.{Counts}
 use Rattle.meaning.proofs.Limited.{items_are_counted}
-use Rattle.reader.proofs.MarkRanges.{tested_range}
 use Rattle.plan.proofs.PlanFacts.{plan_limited}
 
 never : {A : Type 0} → false ≡ true → A
@@ -31,8 +29,7 @@ fit_numbered : (n : ℕ) (bs : List Bool) (ls : List Leaf) → all_fit n bs ls �
 fit_numbered n [] [] h k lt = absurd (omega (arith, lt))
 fit_numbered n [] (l ∷ ls) h k lt = never h
 fit_numbered n (b ∷ bs) [] h k lt = never h
-fit_numbered n (b ∷ bs) (l ∷ ls) h zero lt =
-    name_numbered n b l.name (and_parts (name_fits n b l.name) (marks_fit l.marks) (and_parts (leaf_fits n b l) (all_fit n bs ls) h).0).0
+fit_numbered n (b ∷ bs) (l ∷ ls) h zero lt = name_numbered n b l.name (and_parts (leaf_fits n b l) (all_fit n bs ls) h).0
 fit_numbered n (b ∷ bs) (l ∷ ls) h (suc k) lt = fit_numbered n bs ls (and_parts (leaf_fits n b l) (all_fit n bs ls) h).1 k (omega (arith, lt))
 
 fit_long : (n : ℕ) (bs : List Bool) (ls : List Leaf) → all_fit n bs ls ≡ true → length ls ≡ length bs
@@ -41,21 +38,13 @@ fit_long n [] (l ∷ ls) h = never h
 fit_long n (b ∷ bs) [] h = never h
 fit_long n (b ∷ bs) (l ∷ ls) h = ap suc (fit_long n bs ls (and_parts (leaf_fits n b l) (all_fit n bs ls) h).1)
 
-fit_ranged : (n : ℕ) (bs : List Bool) (ls : List Leaf) → all_fit n bs ls ≡ true → (k : ℕ) → k < length ls → InRange (get_or ls k no_leaf).marks
-fit_ranged n [] [] h k lt = absurd (omega (arith, lt))
-fit_ranged n [] (l ∷ ls) h k lt = never h
-fit_ranged n (b ∷ bs) [] h k lt = never h
-fit_ranged n (b ∷ bs) (l ∷ ls) h zero lt =
-    tested_range l.marks (and_parts (name_fits n b l.name) (marks_fit l.marks) (and_parts (leaf_fits n b l) (all_fit n bs ls) h).0).1
-fit_ranged n (b ∷ bs) (l ∷ ls) h (suc k) lt = fit_ranged n bs ls (and_parts (leaf_fits n b l) (all_fit n bs ls) h).1 k (omega (arith, lt))
-
 kinds_counted : (e : Shape) → length (leaf_kinds e) ≡ leaves e
 kinds_counted (leaf b) = refl
 kinds_counted (bracket s e) = kinds_counted e
 kinds_counted (join l e f) = length-append (leaf_kinds e) (leaf_kinds f) ∙ ap₂ ◌+◌ (kinds_counted e) (kinds_counted f)
 
 -- of a plan: its leaves are as many as its shape has, their names' numbers are below the number of names, which is at most
--- 128, their marks are within their ranges, and its items are at most 192
+-- 128, and its items are at most 192
 pub plan_leaves : (p : Plan) → length (vec_items p.leaves) ≡ leaves (shape_of p.tree)
 plan_leaves p =
     let h = and_parts (leb p.names 128) (all_fit p.names (leaf_kinds (shape_of p.tree)) (vec_items p.leaves)) p.fitting in
@@ -65,11 +54,6 @@ pub plan_numbered : (p : Plan) → AllNumbered p.names (vec_items p.leaves)
 plan_numbered p =
     let h = and_parts (leb p.names 128) (all_fit p.names (leaf_kinds (shape_of p.tree)) (vec_items p.leaves)) p.fitting in
     fit_numbered p.names (leaf_kinds (shape_of p.tree)) (vec_items p.leaves) h.1
-
-pub plan_ranged : (p : Plan) (k : ℕ) → k < length (vec_items p.leaves) → InRange (get_or (vec_items p.leaves) k no_leaf).marks
-plan_ranged p =
-    let h = and_parts (leb p.names 128) (all_fit p.names (leaf_kinds (shape_of p.tree)) (vec_items p.leaves)) p.fitting in
-    fit_ranged p.names (leaf_kinds (shape_of p.tree)) (vec_items p.leaves) h.1
 
 pub plan_names : (p : Plan) → p.names ≤ 128
 plan_names p =

@@ -8,12 +8,10 @@ use Rattle.meaning.specs.Shape.{Shape, leaf, bracket, join, leaves}
 use Rattle.meaning.specs.Limits.{sequence}
 use Rattle.grammar.specs.Written.{leaf_text, sign_of, link_sign, no_leaf, written_from}
 use Rattle.layout.specs.Tree.{shape_of}
-use Rattle.grammar.specs.Ranges.{InRange, marks_fit}
 use Rattle.reader.specs.Drafts.{draft_text, is_named, named_to, NamedAt, Placed, kinds, spelled}
 use Rattle.reader.specs.Entering.{HasName, AllNamed, Below, Matches, Entered, name_runs}
 use Rattle.grammar.specs.Faults.{Refuses}
 use Rattle.grammar.specs.Readings.{Unrefused}
-use Rattle.reader.proofs.MarkRanges.{range_tested}
 use Rattle.grammar.proofs.FormAgrees.{firsts_agree, takings_agree}
 use Rattle.plan.specs.Parses.{RefusedFor, SizedWell, Accepts, leaf_named, AllBelow, ReadsPlan}
 use Rattle.reader.specs.Judging.{Nothing, Granted, Judges}
@@ -69,7 +67,7 @@ named_of has t n p (Some q) h =
 
 pub all_named : (has : List ℕ → Bool) (t : List ℕ) → ((f : Refusal) → Refuses has t f → ⊥) → (ds : List Draft) → Placed t ds → AllNamed has t ds
 all_named has t n [] h = tt
-all_named has t n (d ∷ ds) h = (named_of has t n d.at d.end h.0.0, all_named has t n ds h.1)
+all_named has t n (d ∷ ds) h = (named_of has t n d.at d.end h.0, all_named has t n ds h.1)
 
 pub granted_named : {has : List ℕ → Bool} {t : List ℕ} {ds : List Draft} {b : Branch} → Granted has t ds b → AllNamed has t ds
 granted_named {has} {t} {ds} g = all_named has t g.nothing.none ds (read_spells g.whole).placed
@@ -111,29 +109,17 @@ matched_below texts t [] (l ∷ ls) n b h = absurd h
 matched_below texts t (d ∷ ds) [] n b h = absurd h
 matched_below texts t (d ∷ ds) (l ∷ ls) n b h = (below_more (length texts) n l.name b h.0.below, matched_below texts t ds ls n b h.1)
 
-abbrev AllRanged : List Leaf → Type 0
-AllRanged [] = Unit {0}
-AllRanged (l ∷ ls) = InRange l.marks × AllRanged ls
-
-matched_ranged : (texts : List Text) (t : List ℕ) (ds : List Draft) (ls : List Leaf) → Placed t ds → Matches texts t ds ls → AllRanged ls
-matched_ranged texts t [] [] p h = tt
-matched_ranged texts t [] (l ∷ ls) p h = absurd h
-matched_ranged texts t (d ∷ ds) [] p h = absurd h
-matched_ranged texts t (d ∷ ds) (l ∷ ls) p h = (subst InRange (sym h.0.marks) p.0.1, matched_ranged texts t ds ls p.1 h.1)
-
--- leaves of the shape's kinds, with numbers of names and marks within their ranges, fit the shape
+-- leaves of the shape's kinds, with numbers of names, fit the shape
 name_fit : (n : ℕ) (o : Option ℕ) → Below n o → name_fits n (named_to o) o ≡ true
 name_fit n None b = refl
 name_fit n (Some k) b = lt-ltb k n b
 
-all_fitting : (n : ℕ) (bs : List Bool) (ls : List Leaf) → bs ≡ map leaf_named ls → AllBelow n ls → AllRanged ls → all_fit n bs ls ≡ true
-all_fitting n bs ls e b r = subst (λ z. all_fit n z ls ≡ true) (sym e) (go ls b r)
+all_fitting : (n : ℕ) (bs : List Bool) (ls : List Leaf) → bs ≡ map leaf_named ls → AllBelow n ls → all_fit n bs ls ≡ true
+all_fitting n bs ls e b = subst (λ z. all_fit n z ls ≡ true) (sym e) (go ls b)
   where
-    go : (ms : List Leaf) → AllBelow n ms → AllRanged ms → all_fit n (map leaf_named ms) ms ≡ true
-    go [] h k = refl
-    go (l ∷ ms) h k =
-        and_from (leaf_fits n (leaf_named l) l) (all_fit n (map leaf_named ms) ms)
-        (and_from (name_fits n (leaf_named l) l.name) (marks_fit l.marks) (name_fit n l.name h.0) (range_tested l.marks k.0)) (go ms h.1 k.1)
+    go : (ms : List Leaf) → AllBelow n ms → all_fit n (map leaf_named ms) ms ≡ true
+    go [] h = refl
+    go (l ∷ ms) h = and_from (leaf_fits n (leaf_named l) l) (all_fit n (map leaf_named ms) ms) (name_fit n l.name h.0) (go ms h.1)
 
 same_kinds : (e : Shape) → leaf_kinds e ≡ kinds e
 same_kinds (leaf b) = refl
@@ -150,7 +136,7 @@ entered_fit text has t before after ds b e ls n i s g q l few m h =
     let done : Matches texts t ds ls = subst (λ z. Matches texts t ds z) (take_all i ls (omega arith)) (subst (λ z. Matches texts t z (take i ls)) all h.done) in
     let kind : leaf_kinds e ≡ map leaf_named ls = same_kinds e ∙ (a.spells.kind ∙ matched_kinds texts t ds ls done) in
     let below = matched_below texts t ds ls n (omega (arith, length-map (take n after) text, length-take n after)) done in
-    and_from (leb n 128) (all_fit n (leaf_kinds e) ls) (le-leb n 128 (omega (arith, h.fits))) (all_fitting n (leaf_kinds e) ls kind below (matched_ranged texts t ds ls a.spells.placed done))
+    and_from (leb n 128) (all_fit n (leaf_kinds e) ls) (le-leb n 128 (omega (arith, h.fits))) (all_fitting n (leaf_kinds e) ls kind below)
 
 pub reads_plan : {K : Type 0} (text : K → Text) (has : List ℕ → Bool) (t : List ℕ) (before after : List K) (ds : List Draft) (b : Branch) (p : Plan) (i : ℕ)
     → SizedWell (length before) t → (g : Granted has t ds b) → shape_of p.tree ≡ g.whole.drawn.shape → length ds ≤ i → length (vec_items p.leaves) ≡ i

@@ -1,6 +1,5 @@
 -- The leaves of a plan fit its shape.
 use Rattle.std.specs.Prelude.{ℕ, Bool, true, false, ◌&&◌, List, [], ◌∷◌, ◌++◌, Some, None, Option, nat_le, nat_lt}
-use Rattle.grammar.specs.Ranges.{marks_fit}
 use Rattle.meaning.specs.Shape.{Shape, leaf, bracket, join}
 use Rattle.grammar.specs.declared.leaf.Leaf.{Leaf}
 
@@ -10,7 +9,7 @@ leaf_kinds (leaf b) = b ∷ []
 leaf_kinds (bracket s e) = leaf_kinds e
 leaf_kinds (join l e f) = leaf_kinds e ++ leaf_kinds f
 
--- a name has a number below the number of names, and `_` has none; marks are within their ranges
+-- a name has a number below the number of names, and `_` has none
 abbrev pub name_fits : ℕ → Bool → Option ℕ → Bool
 name_fits names true (Some n) = nat_lt n names
 name_fits names true None = false
@@ -18,7 +17,7 @@ name_fits names false (Some n) = false
 name_fits names false None = true
 
 abbrev pub leaf_fits : ℕ → Bool → Leaf → Bool
-leaf_fits names b l = name_fits names b l.name && marks_fit l.marks
+leaf_fits names b l = name_fits names b l.name
 
 -- as many leaves as the shape has, each of its kind
 abbrev pub all_fit : ℕ → List Bool → List Leaf → Bool

@@ -15,7 +15,9 @@ pub use grammar::{
     Leaf, Marks, PlanError, Refusal, always_decided, answers_worked, beginnings_live, firsts_agree,
     forms_are_accepted, refusals_agree, takings_agree,
 };
-pub use layout::{Item, Line, Size, Sort, few_moves_leave, outlines_are_whole, plans_are_laid};
+pub use layout::{
+    Item, Line, Link, Size, Sort, Tree, few_moves_leave, outlines_are_whole, plans_are_laid,
+};
 pub use meaning::{
     beginnings_tested, combs_are_shuffles, combs_nest_freely, cuts_are_formed, cuts_are_listed,
     cuts_finish, depth_is_greatest, ends_are_single, interleave_is_n_ary, items_are_counted,
@@ -26,6 +28,7 @@ pub use meaning::{
     three_nest_freely, walks_read_beginnings, walks_read_permitted, widest_is_attained,
     worked_examples,
 };
+pub use parsing::parse;
 pub use plan::Plan;
 pub use reading::{Counts, read};
 pub use spots::RowMove;

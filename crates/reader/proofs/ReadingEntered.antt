@@ -57,7 +57,6 @@ named_enters text t d before after count q k n x e f h = record {
     text = ap (λ z. z ++ marks_text d.marks) (h.found ∙ f) ∙ ap (λ z. text_to t d.at z (marks_text d.marks)) (sym e);
     kind = ap named_to (sym e);
     below = h.low;
-    marks = refl;
   };
   behind = h.behind;
   least = h.least;
@@ -90,7 +89,7 @@ grows us t p None = ([], sym (append-nil us))
 grows us t p (Some q) = grown_all us (between t p q ∷ [])
 
 match_grow : (us vs : List Text) (t : List ℕ) (d : Draft) (l : Leaf) → Match us t d l → Match (us ++ vs) t d l
-match_grow us vs t d l h = record { text = same l.name h.below ∙ h.text; kind = h.kind; below = still l.name h.below; marks = h.marks }
+match_grow us vs t d l h = record { text = same l.name h.below ∙ h.text; kind = h.kind; below = still l.name h.below }
   where
     same : (o : Option ℕ) → Below (length us) o → name_text (us ++ vs) o (marks_text l.marks) ≡ name_text us o (marks_text l.marks)
     same None b = refl

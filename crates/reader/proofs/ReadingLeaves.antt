@@ -1,7 +1,6 @@
 -- What is known once a leaf has been read.
 use Rattle.std.proofs.Common.{◌≡◌, ℕ, ◌+◌, ◌<◌, ◌≤◌, Bool, true, false, ◌||◌, eqb, List, ◌∷◌, ◌++◌, length, Some, None, sym, refl, ap, ◌∙◌, subst, arith}
 use Rattle.text.specs.Bytes.{name_byte, between, Longest}
-use Rattle.grammar.specs.Ranges.{InRange}
 use Rattle.meaning.specs.Shape.{leaf}
 use Rattle.meaning.specs.Limits.{item}
 use Rattle.grammar.specs.Written.{marks_text}
@@ -50,14 +49,14 @@ back {d} {r} {s} room q fs b n w e =
     subst (λ x. Whole x fs × Drawn item room r.text.now r.at r.brackets q x.brackets (drafts_of r) (drafts_of s) b) (sym (noted_spot n q)) (w, e)
 
 pub blank_read : {r s : Reader} (m : Marks) (room : ℕ) (fs : List Frame) (b : Branch) → Noted (record { at = r.at; end = None; marks = m }) r s → Here (spot r) fs fresh → next (spot r) ≡ 95
-    → r.leaves < 128 → InRange m → Means (leaf false) b → LeafRead room fs r s (r.at + 1) b
-blank_read {r} {s} m room fs b n h e l z i =
+    → r.leaves < 128 → Means (leaf false) b → LeafRead room fs r s (r.at + 1) b
+blank_read {r} {s} m room fs b n h e l i =
     let t = r.text.now in
     let p = r.at in
     let w = stands_within (spot r) (omega (arith, e)) in
     back room (p + 1) fs b n (blank_leaf h e l)
     (leaf_drawn t p (p + 1) r.brackets room (drafts_of r) (drafts_of s) (record { at = p; end = None; marks = m }) b (omega arith) n.drafts
-    (between_cons t p (p + 1) (omega arith) w ∙ (ap (λ x. x ∷ between t (p + 1) (p + 1)) e ∙ ap (λ x. 95 ∷ x) (between_none t (p + 1)))) tt z i)
+    (between_cons t p (p + 1) (omega arith) w ∙ (ap (λ x. x ∷ between t (p + 1) (p + 1)) e ∙ ap (λ x. 95 ∷ x) (between_none t (p + 1)))) tt i)
 
 -- a name whose bytes end at a place, before its marks
 pub named_here : (r : Reader) {fs : List Frame} (q : ℕ) → Here (spot r) fs fresh → r.leaves < 128 → Longest name_byte r.text.now r.at q → r.at < q
@@ -66,13 +65,13 @@ named_here r q h l g w = name_run q h (g.all r.at (omega arith) w) l g
 
 pub named_read : {r s : Reader} (m : Marks) (q u room : ℕ) (fs : List Frame) (b : Branch) → Noted (record { at = r.at; end = Some q; marks = m }) r s → Here (spot r) fs fresh
     → Longest name_byte r.text.now r.at q → r.at < q → q ≤ u → Whole (spot_at r.text.now u (r.leaves + 1) r.brackets) fs → between r.text.now q u ≡ marks_text m
-    → InRange m → Means (leaf true) b → LeafRead room fs r s u b
-named_read {r} {s} m q u room fs b n h g w v x y z i =
+    → Means (leaf true) b → LeafRead room fs r s u b
+named_read {r} {s} m q u room fs b n h g w v x y i =
     let t = r.text.now in
     let p = r.at in
     back room u fs b n x
     (leaf_drawn t p u r.brackets room (drafts_of r) (drafts_of s) (record { at = p; end = Some q; marks = m }) b (omega arith) n.drafts
-    (between_append t p q u (omega arith) v ∙ ap (λ o. between t p q ++ o) y) (fs, h.state, g, w) z i)
+    (between_append t p q u (omega arith) v ∙ ap (λ z. between t p q ++ z) y) (fs, h.state, g, w) i)
 
 -- the text stays where a leaf is noted
 pub noted_steady : {d : Draft} {r s : Reader} (q : ℕ) → Noted d r s → r.leaves < 128 → r.at ≤ q → q ≤ length r.text.now

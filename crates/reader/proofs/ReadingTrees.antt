@@ -8,7 +8,6 @@ use Rattle.meaning.specs.Limits.{Phrase, item, sequence, options, lines, held, p
 use Rattle.grammar.specs.Written.{sign_of, link_sign}
 use Rattle.grammar.specs.Form.{least, most}
 use Rattle.reader.specs.Branches.{Means}
-use Rattle.grammar.specs.Ranges.{InRange}
 use Rattle.reader.specs.Drafts.{draft_text, is_named, NamedAt, Placed, kinds, spelled}
 use Rattle.reader.specs.declared.reader.Reader.{Reader}
 use Rattle.reader.specs.Reading.{Steady, Drawn, Enough, Inside, inner_link}
@@ -91,15 +90,15 @@ right_count interleave e h = let a = h.low in let b = h.high in both (leb 2 (pla
 
 -- one leaf
 pub leaf_drawn : (t : List ℕ) (p q k room : ℕ) (ds es : List Draft) (d : Draft) (b : Branch) → p ≤ q → es ≡ ds ++ (d ∷ []) → between t p q ≡ draft_text t d
-    → NamedAt t d.at d.end → InRange d.marks → Means (leaf (is_named d)) b → Drawn item room t p k q k ds es b
-leaf_drawn t p q k room ds es d b l g x a r i = record {
+    → NamedAt t d.at d.end → Means (leaf (is_named d)) b → Drawn item room t p k q k ds es b
+leaf_drawn t p q k room ds es d b l g x a i = record {
   forward = l;
   shape = leaf (is_named d);
   added = d ∷ [];
   grown = g;
   text = x;
   kind = refl;
-  placed = ((a, r), tt);
+  placed = (a, tt);
   formed = refl;
   deep = omega arith;
   number = sym (add-zero k);

@@ -2,7 +2,6 @@
 use Rattle.std.specs.Prelude.{◌≡◌, ℕ, ◌<◌, Bool, true, false, List, [], ◌∷◌, ◌++◌, drop, pos, Some, None, Option, slice_index_or}
 use Rattle.text.specs.Bytes.{between, name_byte, Longest}
 use Rattle.meaning.specs.Shape.{Shape, leaf, bracket, join, leaves}
-use Rattle.grammar.specs.Ranges.{InRange}
 use Rattle.grammar.specs.Written.{marks_text, sign_of, link_sign}
 use Rattle.grammar.specs.Machine.{Frame, fresh, live}
 use Rattle.grammar.specs.Faults.{before}
@@ -33,10 +32,9 @@ abbrev pub NamedAt : List ℕ → ℕ → Option ℕ → Type 0
 NamedAt t p None = Unit {0}
 NamedAt t p (Some q) = (fs : List Frame) × (before t p ≡ live fs fresh) × Longest name_byte t p q × (p < q)
 
--- and its marks are within their ranges: so it is at every leaf
 abbrev pub Placed : List ℕ → List Draft → Type 0
 Placed t [] = Unit {0}
-Placed t (d ∷ ds) = (NamedAt t d.at d.end × InRange d.marks) × Placed t ds
+Placed t (d ∷ ds) = NamedAt t d.at d.end × Placed t ds
 
 -- which leaves of a shape are names, in order
 abbrev pub kinds : Shape → List Bool

@@ -40,7 +40,6 @@ pub record Match (texts : List Text) (t : List ℕ) (d : Draft) (l : Leaf) : Typ
   pub text : leaf_text texts l ≡ draft_text t d
   pub kind : named_to l.name ≡ is_named d
   pub below : Below (length texts) l.name
-  pub marks : l.marks ≡ d.marks
 
 abbrev pub Matches : List Text → List ℕ → List Draft → List Leaf → Type 0
 Matches texts t [] [] = Unit {0}

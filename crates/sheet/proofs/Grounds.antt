@@ -11,7 +11,6 @@ use Rattle.meaning.specs.Plans.{first_cut, last_cut, WalkedWhole}
 use Rattle.spots.specs.Rows.{LaidOut}
 use Rattle.meaning.specs.Walks.{Walk}
 use Rattle.meaning.specs.CutOrder.{cut_list}
-use Rattle.grammar.specs.Ranges.{marks_fit}
 use Rattle.plan.specs.LeafFit.{leaf_kinds, name_fits, leaf_fits, all_fit, leaves_fit}
 use Rattle.spots.specs.MoveList.{move_list}
 use Rattle.layout.specs.Tree.{shape_of}
@@ -40,7 +39,7 @@ names_below names [] (l ∷ ls) f = let z : ◌≡◌ {A = ℕ} 0 1 = cc in absu
 names_below names (b ∷ bs) [] f = let z : ◌≡◌ {A = ℕ} 0 1 = cc in absurd (omega arith)
 names_below names (b ∷ bs) (l ∷ ls) f =
     let rest = names_below names bs ls (and_right (leaf_fits names b l) (all_fit names bs ls) f) in
-    let here = and_left (name_fits names b l.name) (marks_fit l.marks) (and_left (leaf_fits names b l) (all_fit names bs ls) f) in
+    let here = and_left (leaf_fits names b l) (all_fit names bs ls) f in
     ((name_below names b l.name here, rest.0), ap suc rest.1)
 
 kinds_number : (e : Shape) → length (leaf_kinds e) ≡ leaves e

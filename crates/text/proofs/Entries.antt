@@ -12,14 +12,14 @@ use Rattle.text.specs.declared.directory.Entry.{Entry}
 use Rattle.text.specs.declared.directory.Entry.TheVariants.{Known, New}
 use Rattle.text.specs.Bools.{refute}
 
-get_d_map : {X : Type 0} (f : X → Text) (xs : List X) (i : ℕ) (d : X) → i < length xs → get_or (map f xs) i [] ≡ f (get_or xs i d)
-get_d_map f [] i d h = absurd (omega arith)
-get_d_map f (x ∷ xs) zero d h = refl
-get_d_map f (x ∷ xs) (suc i) d h = get_d_map f xs i d (le_of_suc-le-suc h)
+get_or-map : {X : Type 0} (f : X → Text) (xs : List X) (i : ℕ) (d : X) → i < length xs → get_or (map f xs) i [] ≡ f (get_or xs i d)
+get_or-map f [] i d h = absurd (omega arith)
+get_or-map f (x ∷ xs) zero d h = refl
+get_or-map f (x ∷ xs) (suc i) d h = get_or-map f xs i d (le_of_suc-le-suc h)
 
 -- the text of the name that is read at a place
 pub text_at : {K : Type 0} (text : K → Text) (names : List K) (i : ℕ) (x : K) → i < length names → x ≡ get_or names i x → get_or (map text names) i [] ≡ text x
-text_at text names i x h e = get_d_map text names i x h ∙ ap text (sym e)
+text_at text names i x h e = get_or-map text names i x h ∙ ap text (sym e)
 
 pub length_texts : {K : Type 0} (text : K → Text) (names : List K) → length (map text names) ≡ length names
 length_texts text names = length-map names text

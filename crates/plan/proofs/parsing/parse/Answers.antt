@@ -81,7 +81,7 @@ invariant_of-result g c =
     record {
       limited = (granted_accepts (length c.args.names.now) _ y s q).limits;
       fitting =
-        entered_fit g.K.Kind.text g.K.Kind.has c.args.text.now c.args.names.now c.enter_all-count.new.names (drafts_of r) c.in-Ok.plan _ _ _ r.leaves s y q long c.judge.ensures.few c.enter_all-count.ensures.long h;
+          entered_fit g.K.Kind.text g.K.Kind.has c.args.text.now c.args.names.now c.enter_all-count.new.names (drafts_of r) c.in-Ok.plan _ _ _ r.leaves s y q long c.judge.ensures.few c.enter_all-count.ensures.long h;
       laid = c.in-Ok-lay_out.ensures.0;
       moving = c.in-Ok-lay_out.ensures.1;
     }

@@ -21,5 +21,5 @@ returns c =
     let w = stands_within (spot c.args.self.now) (omega (arith, c.requires.blank)) in
     record {
       steady = noted_steady (c.args.self.now.at + 1) c.note.ensures (omega arith) (omega arith) (omega arith);
-      read = λ room fs h. blank_read _ room fs c.of_leaf.result c.note.ensures h c.requires.blank c.if-self-ge128.false (omega arith, tt) c.of_leaf.ensures;
+      read = λ room fs h. blank_read _ room fs c.of_leaf.result c.note.ensures h c.requires.blank c.if-self-ge128.false c.of_leaf.ensures;
     }

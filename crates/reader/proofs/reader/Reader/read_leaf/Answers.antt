@@ -42,5 +42,5 @@ returns c =
       steady = noted_steady c.in_ok-marks.to c.note.ensures c.if-self-ge128.false (omega (arith, w, e.onward.0)) e.onward.1;
       read = λ room fs h.
           let x = e.read (c.args.self.now.leaves + 1) c.args.self.now.brackets fs (named_here c.args.self.now c.in-Some.end h c.if-self-ge128.false g w) (name_stops _ _ _ g) in
-          named_read _ c.in-Some.end c.in_ok-marks.to room fs c.of_leaf.result c.note.ensures h g w e.onward.0 x.0 x.1 e.ranged c.of_leaf.ensures;
+          named_read _ c.in-Some.end c.in_ok-marks.to room fs c.of_leaf.result c.note.ensures h g w e.onward.0 x.0 x.1 c.of_leaf.ensures;
     }
