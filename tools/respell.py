@@ -40,6 +40,7 @@ OTHER = {
     "mem-getD": "mem-get_or",
     "get_d_map": "get_or-map",
     "get_d_drop": "get_or-drop",
+    "get_d_front": "get_or-front",
     "minZ-turned": "int_min-turned",
     "minZ-self": "int_min-self",
     "minZ-spreads": "int_min-spreads",
