@@ -2,11 +2,25 @@
 //! many moves it has, and a sum over its moves. The sums do not depend on the order of rows and moves.
 #![tactic(auto)]
 
-use plan::{Plan, RowMove, read};
-use show::line_at;
+ghost use Rattle.std.specs.Prelude.{◌≤◌, length};
+
+use plan::{Plan, RowMove, parse};
 use std::io;
 use std::io::Read;
 use text::{Kind, Word};
+
+// Where a line ends.
+fn line_end(bytes: &[u8], from: usize) -> usize
+    requires { from ≤ length bytes.now }
+    ensures forward { from ≤ result }
+    ensures within { result ≤ length bytes.now }
+{
+    let mut end = from;
+    while end < bytes.len() && bytes[end] != b'\n' {
+        end += 1;
+    }
+    end
+}
 
 // A number for a row: its eight columns as digits.
 fn row_sum(buffer: &[u16], row: usize) -> u64 {
@@ -36,7 +50,7 @@ fn move_sum(sums: &[u64], m: &RowMove) -> u64 {
 }
 
 fn show(rt: &HostRuntime, plan: &Plan, buffer: &mut [u16]) -> io::Result<()> {
-    let Ok(rows) = plan.lay(buffer) else {
+    let Ok(rows) = plan.laid(buffer) else {
         return println!(rt; "short");
     };
     let mut sums = Vec::new(rt.alloc());
@@ -59,9 +73,8 @@ fn answer(rt: &HostRuntime, line: &[u8], buffer: &mut [u16]) -> io::Result<()> {
         return Ok(());
     };
     let mut names = [name; 128];
-    let mut plan = Plan::new(rt.alloc())?;
-    match read(rt.alloc(), line, &mut plan, &mut names) {
-        Ok(_) => show(rt, &plan, buffer),
+    match parse(rt.alloc(), line, &mut names) {
+        Ok(plan) => show(rt, &plan, buffer),
         Err(_) => println!(rt; "refused"),
     }
 }
@@ -72,9 +85,10 @@ fn main(rt: HostRuntime) -> io::Result<()> {
     let mut buffer = vec![in rt.alloc(); 0u16; 32768]?;
     let bytes = input.as_slice();
     let mut at = 0;
-    while let Some(line) = line_at(bytes, at) {
-        answer(&rt, line.bytes, buffer.as_mut_slice())?;
-        at = line.next;
+    while at < bytes.len() {
+        let end = line_end(bytes, at);
+        answer(&rt, &bytes[at..end], buffer.as_mut_slice())?;
+        at = end + 1;
     }
     Ok(())
 }

@@ -2,17 +2,44 @@
 //! reading each answers.
 #![tactic(auto)]
 
-use plan::{Plan, read};
-use show::{line_at, show_counts, show_error};
+ghost use Rattle.std.specs.Prelude.{◌≤◌, length};
+
+use plan::{Plan, PlanError, parse};
 use std::io;
 use std::io::Read;
 use text::{Badge, Kind, Word};
 
+// Where a line ends.
+fn line_end(bytes: &[u8], from: usize) -> usize
+    requires { from ≤ length bytes.now }
+    ensures forward { from ≤ result }
+    ensures within { result ≤ length bytes.now }
+{
+    let mut end = from;
+    while end < bytes.len() && bytes[end] != b'\n' {
+        end += 1;
+    }
+    end
+}
+
+// Items, vertices, width and cuts.
+fn show_plan(rt: &HostRuntime, plan: &Plan) -> io::Result<()> {
+    let items = plan.outline(rt.alloc())?.len();
+    let vertices = items.saturating_mul(2);
+    let size = plan.size();
+    let width = size.width();
+    let cuts = size.cuts();
+    println!(rt; "plan {items} {vertices} {width} {cuts}")
+}
+
 fn show<K: Kind>(rt: &HostRuntime, text: &[u8], names: &mut [K]) -> io::Result<()> {
-    let mut plan = Plan::new(rt.alloc())?;
-    match read(rt.alloc(), text, &mut plan, names) {
-        Ok(counts) => show_counts(rt, &counts),
-        Err(error) => show_error(rt, error),
+    match parse(rt.alloc(), text, names) {
+        Ok(plan) => show_plan(rt, &plan),
+        Err(PlanError::Refused(refusal)) => {
+            let (number, place) = refusal.number_and_place();
+            println!(rt; "refused {number} {place}")
+        }
+        Err(PlanError::Memory) => println!(rt; "no memory"),
     }
 }
 
@@ -48,9 +75,10 @@ fn main(rt: HostRuntime) -> io::Result<()> {
     rt.stdin().read_to_end(&mut input)?;
     let bytes = input.as_slice();
     let mut at = 0;
-    while let Some(line) = line_at(bytes, at) {
-        answer(&rt, line.bytes)?;
-        at = line.next;
+    while at < bytes.len() {
+        let end = line_end(bytes, at);
+        answer(&rt, &bytes[at..end])?;
+        at = end + 1;
     }
     Ok(())
 }
