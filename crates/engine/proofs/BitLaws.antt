@@ -1,5 +1,5 @@
-use Rattle.std.proofs.Common.{◌≡◌, ℕ, zero, suc, ◌+◌, ◌-◌, ◌*◌, ◌/◌, ◌%◌, ◌^◌, ◌<◌, ◌≤◌, min, max, Bool, true, false, ◌&&◌, ◌||◌, eqb, ltb, ◌⊎◌, sym, refl, ap, ◌∙◌, inl, inr, pow-suc, arith, pow_pos, pow_mono, pow-add}
-use lib.Bits.{bit_and, bit_or, and_shr, or_shr, and_step, or_step, and_mod, or_mod}
+use Rattle.std.proofs.Common.{◌≡◌, ℕ, suc, ◌+◌, ◌-◌, ◌*◌, ◌/◌, ◌%◌, ◌^◌, ◌<◌, ◌≤◌, min, max, Bool, true, false, ◌&&◌, ◌||◌, eqb, ltb, sym, refl, ap, ◌∙◌, inl, inr, pow-suc, arith, pow_pos, pow_mono, pow-add}
+use lib.Bits.{bit_and, bit_or, and_shr, or_shr, and_step, or_step}
 use native.Mathlib.Nat.{div-eq_of_lt, div_self}
 use Rattle.std.proofs.lemmas.Nat.{shl-shr, pow_below, one_shl, and_mask}
 use Rattle.std.proofs.lemmas.Bool.{cases_order, cases_lt, eq-eqb, ne_eqb, lt-ltb, le-ltb}

@@ -1,5 +1,5 @@
 -- What spans and bays mean: where they start, how two are joined, and what a leaf's marks add.
-use Rattle.std.specs.Prelude.{ℕ, ◌/◌, ◌%◌, ◌^◌, Bool, true, false, ◌&&◌, ◌||◌, ℤ, pos, ◌+ℤ◌, Some, None, Option, ◌==◌, nat_lt}
+use Rattle.std.specs.Prelude.{ℕ, ◌/◌, ◌%◌, ◌^◌, Bool, false, ◌&&◌, ◌||◌, ℤ, pos, ◌+ℤ◌, Some, None, Option, ◌==◌, nat_lt}
 use Rattle.std.specs.Int.{int_min, int_max, saturate_to_bits}
 use Rattle.grammar.specs.declared.leaf.Marks.{Marks}
 use Rattle.engine.specs.declared.bays.Bays.{Bays}

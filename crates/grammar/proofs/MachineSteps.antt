@@ -5,7 +5,7 @@ use Rattle.std.proofs.lemmas.Bool.Decides.{nat_tests}
 use Rattle.text.specs.Bytes.{digit, name_byte}
 use Rattle.grammar.specs.Form.{least, most}
 use Rattle.grammar.specs.Machine.{Mode, fresh, opening, naming, colon, negating, shifting, at, housing, ended, Frame, State, dead, live, ends, begins, step, run}
-use Rattle.grammar.specs.Faults.{before, sign_byte, begun, count}
+use Rattle.grammar.specs.Faults.{before, sign_byte, begun}
 use Rattle.grammar.specs.Readings.{item_follows}
 use Rattle.grammar.proofs.MachineRuns.{run_++}
 

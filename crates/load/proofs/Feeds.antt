@@ -1,11 +1,10 @@
 -- Lines of a text, one by one.
-use Rattle.std.proofs.Common.{◌≡◌, ℕ, zero, suc, ◌+◌, ◌-◌, ◌<◌, ◌≤◌, Bool, true, false, cond, not, ◌&&◌, eqb, List, [], ◌∷◌, ◌++◌, length, get_or, take, drop, sym, refl, ap, ◌∙◌, subst, append_assoc, append-nil, add-zero, arith}
+use Rattle.std.proofs.Common.{◌≡◌, ℕ, suc, ◌+◌, ◌-◌, ◌<◌, ◌≤◌, Bool, true, false, cond, not, ◌&&◌, eqb, List, [], ◌∷◌, ◌++◌, length, get_or, take, drop, sym, refl, ap, ◌∙◌, subst, append_assoc, append-nil, add-zero, arith}
 use Rattle.std.specs.List.{flat_map}
 use Rattle.std.proofs.lemmas.List.{length-take, length-take-le, length-drop, length-append, length_push, drop_at, take_all, drop_all, drop_more, drop-drop, take-append-drop, get_or-take, get_or-drop, flat_map_more}
 use Rattle.std.proofs.lemmas.Bool.Decides.{nat_tests}
 use Rattle.text.specs.Bytes.{every, Longest}
-use Rattle.load.specs.Files.{Placed, longer, lines_at, ended, no_feed, body, stamp_lines, Fits, Lined, LinesTold, Walk, LinesWalked}
-use Rattle.load.specs.declared.trailer.Frame.{Frame}
+use Rattle.load.specs.Files.{Placed, longer, lines_at, ended, no_feed, body, stamp_lines, Lined, LinesTold, Walk, LinesWalked}
 
 both : (a b : Bool) → (a && b) ≡ true → (a ≡ true) × (b ≡ true)
 both true true h = (refl, refl)

@@ -1,12 +1,12 @@
 -- Buffers that are long enough, and places within a plan's text.
-use Rattle.std.proofs.Common.{◌≡◌, ℕ, ◌+◌, ◌^◌, ◌<◌, ◌≤◌, Bool, true, false, cond, ltb, List, [], ◌∷◌, map, length, Some, None, Ok, Option, sym, refl, ap, ◌∙◌, subst, arith}
+use Rattle.std.proofs.Common.{◌≡◌, ℕ, ◌+◌, ◌^◌, ◌<◌, ◌≤◌, Bool, true, false, cond, ltb, List, map, length, Some, None, Ok, Option, refl, ap, ◌∙◌, arith}
 use lib.ListN.{length-map}
 use Rattle.text.specs.Directory.{Text}
 use Rattle.plan.specs.Parses.{RefusedFor}
-use Rattle.grammar.specs.Readings.{RefusedAt, WrongMark, wrong_correction, wrong_negative, wrong_bay, TooMany, too_many_leaves, too_many_brackets}
+use Rattle.grammar.specs.Readings.{WrongMark, wrong_correction, wrong_negative, wrong_bay, TooMany, too_many_leaves, too_many_brackets}
 use Rattle.grammar.specs.declared.refusal.Refusal.{Refusal}
 use Rattle.grammar.specs.declared.refusal.Refusal.TheVariants as refusal
-use Rattle.sheet.specs.Calls.{shortage, short, short_list}
+use Rattle.sheet.specs.Calls.{short, short_list}
 use Rattle.load.specs.Files.{Framed, plan_text}
 use Rattle.load.specs.Judged.{lent_short}
 use Rattle.load.specs.LoadRefusals.{place_of}

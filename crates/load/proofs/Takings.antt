@@ -1,5 +1,5 @@
 -- Stamp lines that are taken one after another.
-use Rattle.std.proofs.Common.{◌≡◌, ℕ, Bool, true, false, ◌⊎◌, List, [], ◌∷◌, ◌++◌, map, length, Some, None, Ok, Err, Option, sym, refl, ap, ◌∙◌, subst, inl, inr, Bor}
+use Rattle.std.proofs.Common.{◌≡◌, ℕ, Bool, true, List, [], ◌∷◌, ◌++◌, map, length, None, Ok, Err, Option, sym, ap, ◌∙◌, subst, inl, inr, Bor}
 use mathlib.Core.List.{map-append}
 use Rattle.std.proofs.ByRecursion.{All-push}
 use Rattle.text.specs.Directory.{Text}

@@ -1,5 +1,5 @@
 -- What is known of a file's frame, plan and stamp lines, put together.
-use Rattle.std.proofs.Common.{◌≡◌, ℕ, Bool, List, map, length, IfOk, None, Ok, Err, vec_items, Option, Result, Vec, sym, refl, ap, ◌∙◌, subst}
+use Rattle.std.proofs.Common.{◌≡◌, ℕ, Bool, List, map, length, IfOk, None, Ok, Err, vec_items, Option, Result, Vec, sym, refl, ◌∙◌, subst}
 use Rattle.text.specs.Directory.{Text}
 use Rattle.plan.specs.declared.plan.Plan.{Plan}
 use Rattle.grammar.specs.declared.refusal.PlanError.{PlanError}

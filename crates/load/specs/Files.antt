@@ -1,5 +1,5 @@
 -- Load files: a plan, stamp lines, and a trailer that says where they stand.
-use Rattle.std.specs.Prelude.{◌≡◌, ℕ, ◌+◌, ◌-◌, ◌≤◌, Bool, true, false, cond, not, ◌&&◌, List, [], ◌∷◌, ◌++◌, length, take, drop, Some, None, Ok, Err, codes, Option, Result, ◌==◌, slice_index, slice_index_or}
+use Rattle.std.specs.Prelude.{◌≡◌, ℕ, ◌+◌, ◌-◌, ◌≤◌, Bool, true, cond, not, ◌&&◌, List, [], ◌∷◌, ◌++◌, length, take, drop, Some, None, Ok, Err, codes, Option, Result, ◌==◌, slice_index, slice_index_or}
 use Rattle.std.specs.List.{flat_map}
 use Rattle.text.specs.Bytes.{digit, every, between}
 use Rattle.text.specs.Decimal.{value}

@@ -1,15 +1,13 @@
 -- What the leaves of a plan keep to.
-use Rattle.std.proofs.Common.{◌≡◌, ℕ, zero, suc, ◌+◌, ◌*◌, ◌<◌, ◌≤◌, Bool, true, false, ◌&&◌, ltb, leb, List, [], ◌∷◌, ◌++◌, length, get_or, Some, None, vec_items, Option, sym, refl, ap, ◌∙◌, ap₂, arith, length-append, leb-true}
+use Rattle.std.proofs.Common.{◌≡◌, ℕ, zero, suc, ◌+◌, ◌*◌, ◌≤◌, Bool, true, false, leb, List, [], ◌∷◌, length, Some, None, vec_items, Option, refl, ap, ◌∙◌, ap₂, arith, length-append, leb-true}
 use Rattle.std.proofs.lemmas.Bool.{ltb-true, and_parts}
 use Rattle.meaning.specs.Counts.{free_cuts, locked_cuts, width}
-use Rattle.plan.specs.LeafFit.{leaf_kinds, name_fits, leaf_fits, all_fit, leaves_fit}
-use Rattle.meaning.specs.Limits.{Limited, brackets}
+use Rattle.plan.specs.LeafFit.{leaf_kinds, name_fits, leaf_fits, all_fit}
 use Rattle.plan.specs.Reads.{counts_of}
 use Rattle.layout.specs.Sizes.{capped}
 use Rattle.meaning.specs.Shape.{Shape, leaf, bracket, join, leaves, items}
 use Rattle.layout.specs.Tree.{shape_of}
 use Rattle.plan.specs.Writes.{Numbered, AllNumbered}
-use Rattle.grammar.specs.Written.{no_leaf}
 use Rattle.grammar.specs.declared.leaf.Leaf.{Leaf}
 use Rattle.plan.specs.declared.plan.Plan.{Plan}
 use Rattle.plan.specs.declared.reading.Counts.{Counts}

@@ -1,12 +1,11 @@
 -- What was read is written back.
-use Rattle.std.proofs.Common.{◌≡◌, ℕ, zero, suc, ◌+◌, ◌<◌, ◌≤◌, Bool, true, false, cond, ◌⊎◌, List, [], ◌∷◌, ◌++◌, map, length, get_or, take, drop, Some, None, Ok, Err, vec_items, Option, Result, sym, refl, ap, ◌∙◌, subst, inl, inr, arith}
-use Rattle.std.proofs.lemmas.List.{length-map, length-append, length_push, get_or_append_left, get_or_push, get_or_default}
+use Rattle.std.proofs.Common.{◌≡◌, ℕ, zero, suc, ◌<◌, ◌≤◌, Bool, true, false, List, [], ◌∷◌, ◌++◌, map, length, get_or, take, drop, Some, None, Ok, Err, vec_items, Option, Result, sym, refl, ap, ◌∙◌, subst, inl, inr, arith}
+use Rattle.std.proofs.lemmas.List.{length-map, length_push, get_or_append_left, get_or_push, get_or_default}
 use Rattle.std.proofs.lemmas.Bool.{cond-true, cond-false, cases_lt}
 use Rattle.text.specs.Directory.{Text, holds, added, added_all, directory}
 use Rattle.text.proofs.Entries.{is_held}
 use Rattle.reader.specs.Entering.{name_runs}
 use Rattle.plan.specs.Parses.{ReadsPlan}
-use Rattle.meaning.specs.Shape.{leaves}
 use Rattle.layout.specs.Tree.{shape_of}
 use Rattle.plan.specs.Writes.{Numbered, StandsTwice, Renders}
 use Rattle.grammar.specs.Written.{no_leaf, written}

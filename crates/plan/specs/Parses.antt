@@ -3,7 +3,6 @@ use Rattle.std.specs.Prelude.{◌≡◌, ℕ, ◌+◌, ◌<◌, ◌≤◌, Bool,
 use Rattle.meaning.specs.Shape.{Shape, leaves}
 use Rattle.meaning.specs.Counts.{free_cuts, locked_cuts, width}
 use Rattle.meaning.specs.Limits.{within_limits}
-use Rattle.grammar.specs.Machine.{accepts}
 use Rattle.grammar.specs.Readings.{FirstRefused, Unrefused}
 use Rattle.reader.specs.Drafts.{named_to, kinds}
 use Rattle.reader.specs.Entering.{Below, name_runs}

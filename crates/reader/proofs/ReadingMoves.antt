@@ -1,5 +1,5 @@
 -- What each step of the reader comes to.
-use Rattle.std.proofs.Common.{◌≡◌, ℕ, suc, ◌+◌, ◌-◌, ◌<◌, ◌≤◌, Bool, true, false, cond, ◌&&◌, eqb, ltb, leb, List, [], ◌∷◌, length, get_or, drop, sym, refl, ap, ◌∙◌, inl, inr, add-zero, add-one, arith, eqb-true}
+use Rattle.std.proofs.Common.{◌≡◌, ℕ, suc, ◌+◌, ◌<◌, ◌≤◌, Bool, true, false, cond, ◌&&◌, eqb, ltb, leb, List, [], ◌∷◌, length, get_or, drop, sym, refl, ap, ◌∙◌, inl, inr, add-zero, add-one, arith, eqb-true}
 use Rattle.std.proofs.lemmas.List.{get_or_past}
 use Rattle.std.proofs.lemmas.Bool.{cases_lt}
 use Rattle.std.proofs.lemmas.Bool.Decides.{nat_tests}
@@ -7,7 +7,7 @@ use Rattle.meaning.specs.Shape.{Sort, lock, choice, interleave}
 use Rattle.grammar.specs.Written.{sign_of}
 use Rattle.grammar.specs.Form.{least, most}
 use Rattle.grammar.specs.Machine.{Mode, fresh, opening, naming, colon, negating, shifting, at, housing, ended, Frame, dead, live, ends, step, ending, accepts}
-use Rattle.grammar.specs.Faults.{before, leaf_byte, sign_byte, begun, count, BeginsAt, First}
+use Rattle.grammar.specs.Faults.{before, leaf_byte, sign_byte, begun, BeginsAt, First}
 use Rattle.reader.specs.Reading.{Spot, next, any, Here, Whole, frame}
 use Rattle.grammar.specs.declared.refusal.Refusal.TheVariants.{Form, Depth, Many}
 use Rattle.reader.proofs.ReadingParts.{never, ne_eqb}

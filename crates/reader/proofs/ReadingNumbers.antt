@@ -1,5 +1,5 @@
 -- Corrections and bays, as the reader finds them behind a name.
-use Rattle.std.proofs.Common.{◌≡◌, ℕ, ◌+◌, ◌-◌, ◌<◌, ◌≤◌, Bool, true, false, eqb, List, length, get_or, sym, refl, subst, arith, eqb-true}
+use Rattle.std.proofs.Common.{◌≡◌, ℕ, ◌+◌, ◌<◌, ◌≤◌, Bool, true, false, eqb, List, length, get_or, sym, refl, subst, arith, eqb-true}
 use mir.Val.{bool_byte}
 use Rattle.text.specs.Bytes.{digit, between, Longest}
 use Rattle.text.specs.Decimal.{says, farthest}

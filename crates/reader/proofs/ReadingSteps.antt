@@ -1,9 +1,9 @@
 -- One byte more: the state, the counts, and what is refused there.
-use Rattle.std.proofs.Common.{◌≡◌, ℕ, ◌+◌, ◌-◌, ◌<◌, Bool, true, ◌≢◌, List, [], ◌∷◌, ◌++◌, length, get_or, take, drop, sym, refl, ap, ◌∙◌, subst, inl, inr, add-zero, add_assoc, zero-add, arith}
+use Rattle.std.proofs.Common.{◌≡◌, ℕ, ◌+◌, ◌<◌, Bool, true, ◌≢◌, List, [], ◌∷◌, ◌++◌, length, get_or, take, drop, sym, refl, ap, ◌∙◌, subst, inl, inr, add-zero, add_assoc, zero-add, arith}
 use Rattle.std.proofs.lemmas.List.{take_more}
 use Rattle.meaning.specs.Shape.{Sort, lock, choice, interleave}
 use Rattle.grammar.specs.Written.{sign_of}
-use Rattle.grammar.specs.Machine.{Mode, fresh, opening, at, Frame, State, dead, live, ends, step, run}
+use Rattle.grammar.specs.Machine.{Mode, fresh, opening, Frame, State, dead, live, ends, step, run}
 use Rattle.grammar.specs.Faults.{before, leaf_byte, sign_byte, begun, count_from, count, Wrong, Refuses, place}
 use Rattle.reader.specs.Reading.{Spot, next, any, Clean, Here}
 use Rattle.grammar.specs.declared.refusal.Refusal.{Refusal}

@@ -1,10 +1,10 @@
 -- Expressions put together from what was read.
-use Rattle.std.proofs.Common.{◌≡◌, ℕ, zero, suc, ◌+◌, ◌-◌, ◌<◌, ◌≤◌, Bool, true, false, ◌&&◌, leb, List, [], ◌∷◌, ◌++◌, map, length, get_or, drop, sym, refl, ap, ◌∙◌, subst, append_assoc, add-zero, arith}
+use Rattle.std.proofs.Common.{◌≡◌, ℕ, zero, suc, ◌+◌, ◌<◌, ◌≤◌, Bool, true, false, ◌&&◌, leb, List, [], ◌∷◌, ◌++◌, map, length, get_or, drop, sym, refl, ap, ◌∙◌, subst, append_assoc, add-zero, arith}
 use Rattle.std.proofs.lemmas.List.{length-append, length-map, length-drop, drop-append-le, map-append}
 use Rattle.std.proofs.lemmas.Bool.Decides.{nat_tests}
 use Rattle.text.specs.Bytes.{between}
 use Rattle.meaning.specs.Shape.{Sort, lock, choice, interleave, Link, then, or, beside, Shape, leaf, bracket, join, leaves}
-use Rattle.meaning.specs.Limits.{Phrase, item, sequence, options, lines, held, plans, right_number, formed_as, brackets}
+use Rattle.meaning.specs.Limits.{Phrase, item, sequence, options, lines, held, plans, right_number, formed_as}
 use Rattle.grammar.specs.Written.{sign_of, link_sign}
 use Rattle.grammar.specs.Form.{least, most}
 use Rattle.reader.specs.Branches.{Means}

@@ -1,8 +1,7 @@
 -- What is found over the rows of a plan is what a call on a sheet should answer.
-use Rattle.std.proofs.Common.{◌≡◌, ℕ, zero, suc, ◌+◌, ◌-◌, ◌<◌, ◌≤◌, Bool, true, false, cond, ltb, ◌⊎◌, ◌↔◌, List, [], ◌∷◌, ◌++◌, map, reverse, length, get_or, take, drop, set, Some, None, Ok, Err, vec_items, Decides, Option, Result, sym, refl, ap, ◌∙◌, subst, inl, inr, arith, length-take-le, ltb-true, MatchOption}
+use Rattle.std.proofs.Common.{◌≡◌, ℕ, ◌-◌, ◌<◌, ◌≤◌, Bool, true, cond, ltb, ◌⊎◌, ◌↔◌, List, [], ◌∷◌, ◌++◌, map, reverse, length, get_or, Some, None, Ok, Err, Decides, Option, sym, refl, ap, ◌∙◌, subst, inl, inr, arith}
 use lib.ListN.{length-map}
 use Rattle.std.proofs.lemmas.Bool.{lt-ltb, le-ltb}
-use Rattle.std.proofs.lemmas.List.{get_or-take}
 use Rattle.std.specs.List.{AllByRecursion as All}
 use Rattle.text.specs.Bytes.{every}
 use Rattle.text.specs.Directory.{Text}
@@ -11,15 +10,14 @@ use Rattle.grammar.specs.declared.leaf.Leaf.{Leaf}
 use Rattle.grammar.specs.declared.leaf.Marks.{Marks}
 use Rattle.spots.specs.declared.moves.RowMove.{RowMove}
 use Rattle.plan.specs.declared.plan.Plan.{Plan}
-use Rattle.sheet.specs.declared.refusal.Refusal.{Refusal}
-use Rattle.sheet.specs.declared.refusal.Refusal.TheVariants.{Short, NotTaken, NoStamp, NoReading}
+use Rattle.sheet.specs.declared.refusal.Refusal.TheVariants.{Short, NotTaken, NoReading}
 use Rattle.engine.specs.Fits.{standing, stamped}
 use Rattle.engine.specs.Joined.{Joined}
 use Rattle.engine.specs.Ways.{Way, amount, Searchable}
 use Rattle.engine.specs.Ahead.{range_over, range_of, Ahead}
-use Rattle.engine.specs.Next.{ReadsNext, Lists}
-use Rattle.engine.specs.Answers.{LogBegins, MayFollow, Reading, Distance, Amount, extended}
-use Rattle.sheet.specs.Calls.{Ground, short, short_list, Answered, Follows, Begins, Reads, RisingList, Stamps, StandsThen, ListsNext, Tells, Weighs, listed, Keeps}
+use Rattle.engine.specs.Next.{ReadsNext}
+use Rattle.engine.specs.Answers.{Distance, Amount}
+use Rattle.sheet.specs.Calls.{short, short_list, Follows, Begins, Reads, Stamps, StandsThen, Tells, Weighs}
 use Rattle.sheet.specs.Views.{ground_over}
 use Rattle.engine.proofs.Meaning.{taken_iff_live, reading_is_way, amount_is_joined}
 use Rattle.engine.proofs.Beyond.{distance_is, nothing_ahead}

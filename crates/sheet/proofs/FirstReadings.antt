@@ -1,5 +1,5 @@
 -- The first way that finishes is what `reading` gives.
-use Rattle.std.proofs.Common.{◌≡◌, ℕ, ◌-◌, ◌<◌, ◌≤◌, Bool, true, false, List, [], ◌∷◌, ◌++◌, map, length, get_or, take, drop, Some, None, Ok, Err, Option, sym, refl, ap, ◌∙◌, subst, arith}
+use Rattle.std.proofs.Common.{◌≡◌, ℕ, ◌-◌, Bool, true, false, List, [], map, length, get_or, take, drop, Some, None, Ok, Err, Option, sym, refl, ◌∙◌, subst}
 use lib.ListN.{length-map}
 use Rattle.text.specs.Directory.{Text}
 use Rattle.meaning.specs.CutOrder.{cut_list}

@@ -1,17 +1,17 @@
 -- What a plan that stands in memory gives a search, and what its logs look like.
-use Rattle.std.proofs.Common.{◌≡◌, ℕ, zero, suc, ◌+◌, ◌-◌, ◌<◌, ◌≤◌, Bool, true, false, ◌&&◌, eqb, ltb, leb, ◌⊎◌, List, [], ◌∷◌, ◌++◌, length, get_or, take, drop, IfSome, Some, None, vec_items, Option, sym, refl, ap, ◌∙◌, subst, inl, inr, append_assoc, arith, length-append, take-append-drop, ltb-true, eqb-true, leb-true}
+use Rattle.std.proofs.Common.{◌≡◌, ℕ, suc, ◌+◌, ◌<◌, ◌≤◌, Bool, true, false, leb, List, [], ◌∷◌, ◌++◌, length, get_or, IfSome, Some, None, vec_items, Option, refl, ap, ◌∙◌, subst, inl, inr, arith, length-append, ltb-true, leb-true}
 use Rattle.std.specs.List.{AllByRecursion as All}
 use Rattle.std.proofs.ByRecursion.{All-get_or, All-weaker}
 use Rattle.text.specs.Directory.{Text}
-use Rattle.meaning.specs.Shape.{Sort, lock, choice, interleave, then, or, beside, Shape, leaf, bracket, join, leaves}
+use Rattle.meaning.specs.Shape.{lock, choice, interleave, then, or, beside, Shape, leaf, bracket, join, leaves}
 use Rattle.meaning.specs.Strands.{Piece, flat, Shuffle, none, fromˡ, fromʳ, Strand, Permitted}
 use Rattle.grammar.specs.Written.{no_leaf}
-use Rattle.meaning.specs.Limits.{Limited, well_formed, within_limits}
-use Rattle.meaning.specs.Plans.{first_cut, last_cut, WalkedWhole}
+use Rattle.meaning.specs.Limits.{Limited, well_formed}
+use Rattle.meaning.specs.Plans.{last_cut, WalkedWhole}
 use Rattle.spots.specs.Rows.{LaidOut}
 use Rattle.meaning.specs.Walks.{Walk}
 use Rattle.meaning.specs.CutOrder.{cut_list}
-use Rattle.plan.specs.LeafFit.{leaf_kinds, name_fits, leaf_fits, all_fit, leaves_fit}
+use Rattle.plan.specs.LeafFit.{leaf_kinds, name_fits, leaf_fits, all_fit}
 use Rattle.spots.specs.MoveList.{move_list}
 use Rattle.layout.specs.Tree.{shape_of}
 use Rattle.grammar.specs.declared.leaf.Leaf.{Leaf}

@@ -1,23 +1,22 @@
 -- What stamping and striking do to the stamps that stand, and when a stamp may follow.
-use Rattle.std.proofs.Common.{◌≡◌, ℕ, zero, suc, ◌+◌, ◌-◌, ◌<◌, ◌≤◌, Bool, true, false, ◌&&◌, ltb, ◌⊎◌, List, [], ◌∷◌, ◌++◌, map, length, get_or, take, drop, set, IfSome, Some, None, Ok, Err, vec_items, Option, sym, refl, ap, ◌∙◌, subst, inl, inr, append_assoc, add-one, arith, length-append, take-append-drop, length-take-le, take-take, take-suc-set, ltb-true}
+use Rattle.std.proofs.Common.{◌≡◌, ℕ, zero, suc, ◌+◌, ◌-◌, ◌<◌, ◌≤◌, Bool, true, ltb, List, [], ◌∷◌, ◌++◌, map, length, get_or, take, drop, set, IfSome, Some, None, Ok, Option, sym, refl, ap, ◌∙◌, subst, inl, inr, append_assoc, add-one, arith, length-append, take-append-drop, length-take-le, take-take, take-suc-set, ltb-true}
 use mathlib.Core.List.{map-append}
 use lib.ListN.{length-map}
 use Rattle.std.specs.List.{AllByRecursion as All}
-use Rattle.std.specs.Str.{bytes_eq}
 use Rattle.std.proofs.lemmas.Slice.Eq.{bytes_eq-Decides}
 use Rattle.std.proofs.lemmas.List.{length_push, get_or-take, get_or_past, take-map}
-use Rattle.std.proofs.lemmas.Bool.{lt-ltb, cases_lt}
+use Rattle.std.proofs.lemmas.Bool.{cases_lt}
 use Rattle.text.specs.Bytes.{every}
 use Rattle.text.specs.Directory.{Text, Finds}
-use Rattle.meaning.specs.Shape.{Shape, leaves}
+use Rattle.meaning.specs.Shape.{Shape}
 use Rattle.meaning.specs.Strands.{Permitted}
 use Rattle.grammar.specs.Written.{no_leaf}
 use Rattle.grammar.specs.declared.leaf.Leaf.{Leaf}
 use Rattle.plan.specs.declared.plan.Plan.{Plan}
 use Rattle.meaning.proofs.Testing.{and_left, and_right, and_true}
 use Rattle.engine.specs.Fits.{fits_name, fits, standing}
-use Rattle.engine.specs.Answers.{fit_all, Begun, LogBegins, MayFollow}
-use Rattle.sheet.specs.Calls.{Ground, Begins, Follows, StandsThen, Strikes}
+use Rattle.engine.specs.Answers.{fit_all, LogBegins, MayFollow}
+use Rattle.sheet.specs.Calls.{Ground, Begins, StandsThen, Strikes}
 use Rattle.engine.proofs.Fitted.{fit_length}
 use Rattle.sheet.proofs.Grounds.{shape, plan_leaves, limits, named, permitted_short}
 

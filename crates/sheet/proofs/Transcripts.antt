@@ -1,5 +1,5 @@
 -- One more turn of a transcript, and what follows of a lawful one.
-use Rattle.std.proofs.Common.{◌≡◌, ℕ, ◌+◌, ◌-◌, ◌<◌, ◌≤◌, Bool, true, false, cond, ◌⊎◌, List, [], ◌∷◌, ◌++◌, length, Some, None, Ok, Err, Option, Result, sym, refl, ap, ◌∙◌, subst, inl, inr, append_assoc, arith, length-append}
+use Rattle.std.proofs.Common.{◌≡◌, ℕ, ◌+◌, ◌-◌, ◌≤◌, Bool, true, List, [], ◌∷◌, ◌++◌, length, Some, None, Ok, Err, Option, Result, sym, refl, ap, ◌∙◌, subst, inl, inr, append_assoc, arith, length-append}
 use Rattle.std.proofs.lemmas.Bool.{le-ltb}
 use Rattle.text.specs.Directory.{Text}
 use Rattle.sheet.specs.declared.refusal.Refusal.{Refusal}
@@ -10,7 +10,7 @@ use Rattle.sheet.specs.declared.words.Call.TheVariants.{Stamp, Strike, Next, Dis
 use Rattle.sheet.specs.declared.words.Lengths.{Lengths}
 use Rattle.sheet.specs.declared.words.Turn.{Turn}
 use Rattle.engine.specs.Answers as A
-use Rattle.sheet.specs.Calls.{Ground, short, Begins, Follows, StandsThen, Tells, Weighs, struck}
+use Rattle.sheet.specs.Calls.{Ground, short, Begins, StandsThen, Tells, Weighs}
 use Rattle.sheet.specs.Runs.{Desk, lacks, Right, After, Lawful, Stood, Full, AmountsAreJoined, DistancesAreTold, AfterIsOne, last_of, Asked, fitted, Served}
 use Rattle.sheet.proofs.Stamping.{still_begun, begun_take}
 

@@ -1,5 +1,5 @@
 -- A mistake that the join forbids: keeping the first amount where two moves meet in a cut.
-use Rattle.std.specs.Prelude.{◌≡◌, ℕ, ◌⊎◌, List, [], ◌∷◌, ℤ, pos}
+use Rattle.std.specs.Prelude.{◌≡◌, ◌⊎◌, [], ◌∷◌, ℤ, pos}
 use Rattle.meaning.specs.Cuts.{silent, Move}
 use Rattle.meaning.specs.Walks.{Walk}
 use Rattle.meaning.specs.Examples.{a}

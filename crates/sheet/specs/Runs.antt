@@ -1,5 +1,5 @@
 -- Which answers are right, and which transcripts are lawful.
-use Rattle.std.specs.Prelude.{◌≡◌, ℕ, ◌+◌, ◌<◌, ◌≤◌, min, Bool, true, ◌⊎◌, List, [], ◌∷◌, ◌++◌, length, take, Some, None, Ok, Err, Option, Result}
+use Rattle.std.specs.Prelude.{◌≡◌, ℕ, ◌≤◌, min, Bool, true, ◌⊎◌, List, [], ◌∷◌, ◌++◌, length, take, None, Ok, Err, Option, Result}
 use Rattle.text.specs.Directory.{Text}
 use Rattle.grammar.specs.declared.leaf.Marks.{Marks}
 use Rattle.sheet.specs.declared.refusal.Refusal.{Refusal}
@@ -11,7 +11,7 @@ use Rattle.sheet.specs.declared.words.Answer.{Answer}
 use Rattle.sheet.specs.declared.words.Answer.TheVariants.{Opened, Stamped, Struck, Listed, Measured, Weighed, Read}
 use Rattle.sheet.specs.declared.words.Turn.{Turn}
 use Rattle.engine.specs.Answers as A
-use Rattle.sheet.specs.Calls.{Ground, short, short_list, Reads, Stamps, StandsThen, Strikes, struck, ListsNext, Tells, Weighs, GivesFirst}
+use Rattle.sheet.specs.Calls.{Ground, short, short_list, Stamps, StandsThen, Strikes, struck, ListsNext, Tells, Weighs, GivesFirst}
 
 -- the list that a listing holds
 abbrev pub listing : Result Listing Refusal → Result (List ℕ) Refusal

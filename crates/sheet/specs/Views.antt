@@ -1,5 +1,5 @@
 -- What a sheet stands on, and what stands on it.
-use Rattle.std.specs.Prelude.{ℕ, List, map, take, vec_items}
+use Rattle.std.specs.Prelude.{List, map, take, vec_items}
 use Rattle.text.specs.Directory.{Text}
 use Rattle.text.specs.declared.kind.Kind.{Ghosts}
 use Rattle.layout.specs.Tree.{shape_of}

@@ -1,5 +1,5 @@
 -- Turns of the calls that lines ask for.
-use Rattle.std.proofs.Common.{◌≡◌, ℕ, ◌+◌, ◌<◌, ◌≤◌, Bool, true, false, ◌⊎◌, List, [], ◌∷◌, ◌++◌, map, length, get_or, drop, Some, None, Option, sym, refl, ap, ◌∙◌, subst, inl, inr, true≢false, arith}
+use Rattle.std.proofs.Common.{◌≡◌, ℕ, ◌+◌, ◌<◌, Bool, true, false, List, [], ◌∷◌, map, length, get_or, drop, Some, None, Option, sym, refl, ap, ◌∙◌, subst, inl, inr, true≢false, arith}
 use Rattle.std.proofs.lemmas.Bool.{cases_lt}
 use Rattle.text.specs.Bytes.{between}
 use Rattle.sheet.specs.declared.words.Answer.{Answer}
@@ -8,8 +8,8 @@ use Rattle.sheet.specs.declared.words.Call.TheVariants.{Stamp, Strike, Next, Dis
 use Rattle.sheet.specs.declared.words.Turn.{Turn}
 use Rattle.sheet.specs.Played.{calls_of}
 use Rattle.sheet.specs.Runs.{Asked}
-use Rattle.show.specs.Lines.{in_line, Lies}
-use Rattle.show.specs.Asking.{stamp_line, call_line, Asks, Idle, Finds, over, here, later, Called, all, more}
+use Rattle.show.specs.Lines.{Lies}
+use Rattle.show.specs.Asking.{stamp_line, call_line, Asks, Idle, Finds, over, here, later, Called, more}
 use Rattle.show.specs.Scripts.{Goes, Takes}
 use Rattle.show.specs.declared.requests.Request.{Request}
 use Rattle.show.specs.declared.requests.Request.TheVariants.{Nothing, For, NoName, NoCall}

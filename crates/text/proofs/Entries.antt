@@ -1,12 +1,12 @@
 -- Directories, entry by entry.
-use Rattle.std.proofs.Common.{◌≡◌, ℕ, zero, suc, ◌+◌, ◌-◌, ◌<◌, ◌≤◌, min, Bool, true, false, cond, ◌||◌, leb, ◌⊎◌, List, [], ◌∷◌, ◌++◌, map, length, get_or, take, drop, set, Some, None, Decides, Option, sym, refl, ap, ◌∙◌, subst, inl, inr, append_assoc, append-nil, le_of_suc-le-suc, arith}
+use Rattle.std.proofs.Common.{◌≡◌, ℕ, zero, suc, ◌+◌, ◌-◌, ◌<◌, ◌≤◌, min, Bool, true, false, ◌⊎◌, List, [], ◌∷◌, ◌++◌, map, length, get_or, take, drop, set, Some, None, Decides, Option, sym, refl, ap, ◌∙◌, subst, inl, inr, append_assoc, append-nil, le_of_suc-le-suc, arith}
 use native.Mathlib.Nat.{sub-zero}
 use Rattle.std.specs.List.{HoldsAt}
 use Rattle.std.specs.Str.{bytes_eq}
 use Rattle.std.proofs.lemmas.Slice.Eq.{bytes_eq-Decides}
 use Rattle.std.proofs.lemmas.Bool.Decides.{Decides-by_or}
 use Rattle.std.proofs.lemmas.Bool.{cond-true, cond-false, cases_lt}
-use Rattle.std.proofs.lemmas.List.{length-map, length-append, length-set, length-take-le, get_or_default, map-append, take_at, take_more_set, take_all, drop-drop, drop-set-lt, drop_more, drop_all}
+use Rattle.std.proofs.lemmas.List.{length-map, length-append, length-set, get_or_default, map-append, take_at, take_more_set, take_all, drop-drop, drop-set-lt, drop_more, drop_all}
 use Rattle.text.specs.Directory.{Text, holds, added, added_all, directory, Finds, Adds, Gathers}
 use Rattle.text.specs.declared.directory.Entry.{Entry}
 use Rattle.text.specs.declared.directory.Entry.TheVariants.{Known, New}

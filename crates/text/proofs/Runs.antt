@@ -1,7 +1,6 @@
 -- Runs of bytes, and parts one after another.
-use Rattle.std.proofs.Common.{◌≡◌, ℕ, zero, suc, ◌+◌, ◌-◌, ◌<◌, ◌≤◌, Bool, true, false, List, [], ◌∷◌, ◌++◌, length, get_or, take, drop, sym, refl, ap, ◌∙◌, subst, append_assoc, append-nil, arith, take-add}
+use Rattle.std.proofs.Common.{◌≡◌, ℕ, ◌+◌, ◌-◌, ◌<◌, ◌≤◌, Bool, true, List, [], ◌∷◌, ◌++◌, length, get_or, take, sym, refl, ap, ◌∙◌, subst, append_assoc, append-nil, arith, take-add}
 use Rattle.std.proofs.lemmas.List.{length-take, length-drop, take_all, drop_more}
-use Rattle.text.specs.Bytes.{between, Longest}
 use Rattle.text.specs.declared.part.Part.{Part}
 use Rattle.text.specs.declared.part.Part.TheVariants.{Name, Digits, Mark, Other, End}
 use Rattle.text.specs.Parts.{Run, Stands, part_bytes, parts_bytes, Parted, AllParts}

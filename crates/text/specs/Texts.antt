@@ -1,16 +1,16 @@
 -- The texts of words and badges.
-use Rattle.std.specs.Prelude.{◌≡◌, ℕ, zero, suc, ◌+◌, ◌-◌, ◌*◌, ◌^◌, ◌<◌, ◌≤◌, Bool, true, false, ◌&&◌, ◌||◌, List, [], ◌∷◌, ◌++◌, length, take, decimal, slice_index, slice_set, refl}
+use Rattle.std.specs.Prelude.{◌≡◌, ℕ, zero, suc, ◌+◌, ◌^◌, ◌<◌, ◌≤◌, Bool, true, false, List, [], ◌∷◌, ◌++◌, length, take, decimal, slice_index, slice_set}
 use Rattle.std.proofs.Common.{sym, ap, ◌∙◌, arith, rules}
 use Rattle.std.proofs.lemmas.Bool.Decides.{nat_tests}
 use Rattle.std.proofs.ByRecursion.{All-weaker}
 use Rattle.std.proofs.lemmas.List.{take_more, take_more_set, take_all}
-use Rattle.std.proofs.lemmas.Str.Parse.{IsNumeralModel, numerals_by_fold, digits_value_short}
+use Rattle.std.proofs.lemmas.Str.Parse.{IsNumeralModel, numerals_by_fold}
 use Rattle.std.proofs.lemmas.Fmt.{decimal_nonempty, first_decimal, digits_decimal, digits_value-decimal, decimal-digits_value, length-decimal-le, decimal_digit}
 use Rattle.text.specs.Bytes.{digit, letter, name_byte, every}
 use Rattle.text.specs.Decimal.{value_after, value, says, DecimalsAgree}
 use Rattle.text.specs.Names.{Shaped, word, badge}
 use Rattle.text.specs.Bools.{refute, clash, every_all, every_at}
-use Rattle.text.specs.Numbers.{Said, said, says_from, plain_from, plain_some, plain_alone}
+use Rattle.text.specs.Numbers.{said, says_from, plain_from, plain_some, plain_alone}
 
 every_weaker : (f g : ℕ → Bool) → ((b : ℕ) → f b ≡ true → g b ≡ true) → (t : List ℕ) → every f t ≡ true → every g t ≡ true
 every_weaker f g w t e = (every_all g t).1 (All-weaker (λ b. f b ≡ true) (λ b. g b ≡ true) w t ((every_all f t).0 e))

@@ -1,5 +1,5 @@
-use Rattle.std.proofs.Common.{map, Ok, Err, refl}
-use Rattle.load.specs.JudgementLines.{judgement_bytes, refused_bytes}
+use Rattle.std.proofs.Common.{map, Ok, refl}
+use Rattle.load.specs.JudgementLines.{judgement_bytes}
 use Rattle.load.proofs.Verdicts.{prints, prints_refused}
 use Rattle.load.proofs.gate.print_judged.Goals as goal
 

@@ -1,4 +1,4 @@
-use Rattle.std.proofs.Common.{◌≡◌, length, drop, sym, refl, ap, ◌∙◌, subst}
+use Rattle.std.proofs.Common.{length, drop, sym, refl, ap, ◌∙◌, subst}
 use lib.ListN.{length-map}
 use Rattle.sheet.specs.Calls.{Begins}
 use Rattle.sheet.specs.Views.{ground_of, stands_on}

@@ -1,4 +1,4 @@
-use Rattle.std.proofs.Common.{ℕ, List, [], ◌∷◌, map, get_or, sym, ap, ◌∙◌, arith}
+use Rattle.std.proofs.Common.{[], map, get_or, sym, ap, ◌∙◌, arith}
 use Rattle.std.proofs.lemmas.List.{get_or_past}
 use Rattle.text.proofs.Entries.{length_texts, text_at}
 use Rattle.load.specs.Printed.{spaced}

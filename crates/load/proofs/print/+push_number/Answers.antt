@@ -1,7 +1,6 @@
-use Rattle.std.proofs.Common.{◌+◌, ◌/◌, ◌%◌, ◌^◌, ◌<◌, [], ◌∷◌, decimal, sym, subst, arith, rules}
+use Rattle.std.proofs.Common.{◌+◌, ◌/◌, ◌%◌, ◌^◌, ◌<◌, [], ◌∷◌, decimal, rules}
 use Rattle.std.proofs.lemmas.Fmt.{decimal_digit, decimal_step}
 use Rattle.std.proofs.lemmas.Result.{err_from_is_err_and}
-use Rattle.load.specs.Printed.{Appends}
 use Rattle.load.proofs.Appending.{then_more, stopped, retold}
 use Rattle.load.proofs.print.+push_number.Goals as goal
 

@@ -1,4 +1,4 @@
-use Rattle.std.proofs.Common.{◌≡◌, ◌<◌, length, arith, length-set, rules}
+use Rattle.std.proofs.Common.{◌<◌, length, length-set, rules}
 use Rattle.sheet.proofs.Listings.{copy_more}
 use Rattle.sheet.proofs.putting.copied.Goals as goal
 

@@ -1,4 +1,4 @@
-use Rattle.std.proofs.Common.{◌≡◌, map, length, Ok, sym, subst}
+use Rattle.std.proofs.Common.{map, length, Ok, sym, subst}
 use Rattle.sheet.specs.Calls.{ListsNext, short_list}
 use Rattle.sheet.specs.Views.{ground_of, stands_on}
 use Rattle.sheet.proofs.putting.list_next.Goals as goal

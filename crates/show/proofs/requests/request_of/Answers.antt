@@ -1,4 +1,4 @@
-use Rattle.std.proofs.Common.{[], length, Some, None, codes, sym, refl, ap, subst, arith}
+use Rattle.std.proofs.Common.{length, Some, None, codes, sym, refl, ap, subst}
 use Rattle.std.proofs.lemmas.Slice.Eq.{slice_eq-Decides, strip_prefix_is}
 use Rattle.show.specs.Asking.{Asks}
 use Rattle.show.proofs.Told.{nothing, differs, no_call, told}

@@ -1,5 +1,5 @@
 use Rattle.std.proofs.Common.{Some, arith}
-use Rattle.show.proofs.Told.{onward, counting_none, counting_more, counted}
+use Rattle.show.proofs.Told.{onward, counting_more, counted}
 use Rattle.show.proofs.script.count_calls.Goals as goal
 
 pub loop-next-smaller : goal.loop-next-smaller

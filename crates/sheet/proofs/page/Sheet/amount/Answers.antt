@@ -1,4 +1,4 @@
-use Rattle.std.proofs.Common.{◌≡◌, length, take, sym}
+use Rattle.std.proofs.Common.{length, take, sym}
 use Rattle.sheet.proofs.Answering.{room, ready_at, among_at, weighs_short, weighs_some_at, weighs_none_at}
 use Rattle.sheet.proofs.page.Sheet.amount.Goals as goal
 

@@ -1,4 +1,4 @@
-use Rattle.std.proofs.Common.{◌≡◌, length, take, sym}
+use Rattle.std.proofs.Common.{length, take, sym}
 use Rattle.sheet.proofs.Answering.{room, ready_at, among_at, tells_short, tells_some_at, tells_none_at}
 use Rattle.sheet.proofs.page.Sheet.distance.Goals as goal
 

@@ -1,4 +1,4 @@
-use Rattle.std.proofs.Common.{◌≡◌, ℕ, ◌≤◌, length, take, sym, refl, ◌∙◌, arith}
+use Rattle.std.proofs.Common.{◌≡◌, length, take, sym, refl, arith}
 use Rattle.sheet.proofs.Answering.{room_list, ready_at, among_at}
 use Rattle.sheet.proofs.Grounds.{name_number}
 use Rattle.sheet.proofs.Listings.{nexts_short, nexts_at}

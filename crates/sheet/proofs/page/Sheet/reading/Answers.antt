@@ -1,4 +1,4 @@
-use Rattle.std.proofs.Common.{◌≡◌, ℕ, ◌≤◌, length, take, sym, refl, ap, ◌∙◌, arith, length-take-le, rules}
+use Rattle.std.proofs.Common.{◌≡◌, ◌≤◌, length, take, sym, refl, ap, ◌∙◌, arith, length-take-le, rules}
 use Rattle.sheet.proofs.Answering.{room_list, ready_at, among_at}
 use Rattle.sheet.proofs.FirstReadings.{gives_short, gives_some, gives_none}
 use Rattle.sheet.proofs.page.Sheet.reading.Goals as goal

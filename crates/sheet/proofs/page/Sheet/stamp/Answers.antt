@@ -1,8 +1,7 @@
-use Rattle.std.proofs.Common.{◌≡◌, ℕ, ◌+◌, ◌<◌, ◌≤◌, Bool, true, false, ltb, List, [], ◌∷◌, ◌++◌, map, length, get_or, take, set, Some, None, Decides, sym, refl, ap, ◌∙◌, subst, arith, rules}
+use Rattle.std.proofs.Common.{◌≡◌, ℕ, ◌+◌, ◌<◌, ◌≤◌, Bool, true, false, map, length, take, set, Decides, sym, refl, ◌∙◌, subst, arith, rules}
 use Rattle.std.specs.List.{AllByRecursion as All}
-use Rattle.text.specs.Directory.{Text, Finds}
 use Rattle.engine.specs.Fits.{standing}
-use Rattle.sheet.specs.Calls.{Begins, Follows}
+use Rattle.sheet.specs.Calls.{Begins}
 use Rattle.sheet.specs.Views.{ground_over}
 use Rattle.sheet.proofs.Answering.{room, stamps_short, stamps_not, stamps_taken}
 use Rattle.sheet.proofs.Grounds.{name_number}

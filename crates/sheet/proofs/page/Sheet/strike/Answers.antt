@@ -1,4 +1,4 @@
-use Rattle.std.proofs.Common.{◌≡◌, ◌-◌, ◌<◌, ◌≤◌, map, length, take, sym, refl, subst, arith, rules}
+use Rattle.std.proofs.Common.{◌-◌, ◌<◌, ◌≤◌, map, length, take, sym, refl, subst, arith, rules}
 use Rattle.engine.specs.Fits.{standing}
 use Rattle.sheet.specs.Calls.{Begins}
 use Rattle.sheet.specs.Views.{ground_over}
