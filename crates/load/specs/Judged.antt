@@ -1,6 +1,6 @@
 -- What a load file is judged to be, and what it is refused for.
 use Rattle.std.specs.Prelude.{◌≡◌, ℕ, ◌≤◌, Bool, true, false, List, [], ◌∷◌, ◌++◌, map, length, take, drop, ℤ, Some, None, Ok, Err, Option, Result, slice_index_or}
-use Rattle.std.specs.List.{AllByRecursion as All}
+use Rattle.std.specs.List.{AllByRecursion}
 use Rattle.text.specs.Directory.{Text}
 use Rattle.plan.specs.Parses.{Accepts, ReadsPlan, RefusedFor}
 use Rattle.meaning.specs.Shape.{Shape}
@@ -35,7 +35,7 @@ texts_of lines = map (λ x. x.1) lines
 
 -- each line is a name of the kind
 abbrev pub AllNamed : (Text → Bool) → List Placed → Type 0
-AllNamed has lines = All (λ x. has x.1 ≡ true) lines
+AllNamed has lines = AllByRecursion (λ x. has x.1 ≡ true) lines
 
 -- lines that are taken: each is a name of the kind, and some log begins with them all
 pub record Taken (has : Text → Bool) (g : Ground) (lines : List Placed) : Type 0 where

@@ -2,7 +2,7 @@
 use Rattle.std.proofs.Common.{◌≡◌, ℕ, ◌-◌, ◌<◌, ◌≤◌, Bool, true, cond, ltb, ◌⊎◌, ◌↔◌, List, [], ◌∷◌, ◌++◌, map, reverse, length, get_or, Some, None, Ok, Err, Decides, Option, sym, refl, ap, ◌∙◌, subst, inl, inr, arith}
 use lib.ListN.{length-map}
 use Rattle.std.proofs.lemmas.Bool.{lt-ltb, le-ltb}
-use Rattle.std.specs.List.{AllByRecursion as All}
+use Rattle.std.specs.List.{AllByRecursion}
 use Rattle.text.specs.Bytes.{every}
 use Rattle.text.specs.Directory.{Text}
 use Rattle.meaning.specs.CutOrder.{cut_list}
@@ -142,8 +142,8 @@ module _ {K : Type 0} (text : K → Text) (p : Plan) (names : List K) (stamps : 
   pub ready_at : (n : ℕ) → 128 ≤ n → Searchable row_count n leaves moves
   ready_at n h = subst (λ x. Searchable x n leaves moves) (sym r) (subst (λ x. Searchable (length (cut_list (shape p))) n x moves) (sym l) (subst (λ x. Searchable (length (cut_list (shape p))) n (plan_leaves p) x) (sym v) (ready p n h)))
 
-  pub among_at : (n : ℕ) → every (λ k. ltb k n) stamps ≡ true → All (λ k. k < n) list
-  among_at n h = subst (λ x. All (λ k. k < n) x) (sym f) (all_below n stamps h)
+  pub among_at : (n : ℕ) → every (λ k. ltb k n) stamps ≡ true → AllByRecursion (λ k. k < n) list
+  among_at n h = subst (λ x. AllByRecursion (λ k. k < n) x) (sym f) (all_below n stamps h)
 
   abbrev Fit : List Leaf → List ℕ → ℕ → ℕ → Bool
   Fit ls xs = stamped (map text names) ls (standing (map text names) xs)

@@ -1,6 +1,6 @@
 -- What a plan that stands in memory gives a search, and what its logs look like.
 use Rattle.std.proofs.Common.{◌≡◌, ℕ, suc, ◌+◌, ◌<◌, ◌≤◌, Bool, true, false, leb, List, [], ◌∷◌, ◌++◌, length, get_or, IfSome, Some, None, vec_items, Option, refl, ap, ◌∙◌, subst, inl, inr, arith, length-append, ltb-true, leb-true}
-use Rattle.std.specs.List.{AllByRecursion as All}
+use Rattle.std.specs.List.{AllByRecursion}
 use Rattle.std.proofs.ByRecursion.{All-get_or, All-weaker}
 use Rattle.text.specs.Directory.{Text}
 use Rattle.meaning.specs.Shape.{lock, choice, interleave, then, or, beside, Shape, leaf, bracket, join, leaves}
@@ -33,7 +33,7 @@ name_below names true (Some n) f = ltb-true n names f
 name_below names false None f = tt
 name_below names false (Some n) f = let z : ◌≡◌ {A = ℕ} 0 1 = cc in absurd (omega arith)
 
-names_below : (names : ℕ) (bs : List Bool) (ls : List Leaf) → all_fit names bs ls ≡ true → All (λ l. IfSome l.name (λ n. n < names)) ls × (length ls ≡ length bs)
+names_below : (names : ℕ) (bs : List Bool) (ls : List Leaf) → all_fit names bs ls ≡ true → AllByRecursion (λ l. IfSome l.name (λ n. n < names)) ls × (length ls ≡ length bs)
 names_below names [] [] f = (tt, refl)
 names_below names [] (l ∷ ls) f = let z : ◌≡◌ {A = ℕ} 0 1 = cc in absurd (omega arith)
 names_below names (b ∷ bs) [] f = let z : ◌≡◌ {A = ℕ} 0 1 = cc in absurd (omega arith)
@@ -73,7 +73,7 @@ module _ (p : Plan) where
   pub name_number : p.names ≤ 128
   name_number = leb-true p.names 128 (and_left (leb p.names 128) (all_fit p.names (leaf_kinds shape) plan_leaves) p.fitting)
 
-  fitted : All (λ l. IfSome l.name (λ n. n < p.names)) plan_leaves × (length plan_leaves ≡ length (leaf_kinds shape))
+  fitted : AllByRecursion (λ l. IfSome l.name (λ n. n < p.names)) plan_leaves × (length plan_leaves ≡ length (leaf_kinds shape))
   fitted = names_below p.names (leaf_kinds shape) plan_leaves (and_right (leb p.names 128) (all_fit p.names (leaf_kinds shape) plan_leaves) p.fitting)
 
   pub leaf_number : length plan_leaves ≡ leaves shape

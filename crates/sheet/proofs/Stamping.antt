@@ -2,7 +2,7 @@
 use Rattle.std.proofs.Common.{◌≡◌, ℕ, zero, suc, ◌+◌, ◌-◌, ◌<◌, ◌≤◌, Bool, true, ltb, List, [], ◌∷◌, ◌++◌, map, length, get_or, take, drop, set, IfSome, Some, None, Ok, Option, sym, refl, ap, ◌∙◌, subst, inl, inr, append_assoc, add-one, arith, length-append, take-append-drop, length-take-le, take-take, take-suc-set, ltb-true}
 use mathlib.Core.List.{map-append}
 use lib.ListN.{length-map}
-use Rattle.std.specs.List.{AllByRecursion as All}
+use Rattle.std.specs.List.{AllByRecursion}
 use Rattle.std.proofs.lemmas.Slice.Eq.{bytes_eq-Decides}
 use Rattle.std.proofs.lemmas.List.{length_push, get_or-take, get_or_past, take-map}
 use Rattle.std.proofs.lemmas.Bool.{cases_lt}
@@ -21,7 +21,7 @@ use Rattle.engine.proofs.Fitted.{fit_length}
 use Rattle.sheet.proofs.Grounds.{shape, plan_leaves, limits, named, permitted_short}
 
 -- every one below a bound
-pub all_below : (m : ℕ) (xs : List ℕ) → every (λ n. ltb n m) xs ≡ true → All (λ n. n < m) xs
+pub all_below : (m : ℕ) (xs : List ℕ) → every (λ n. ltb n m) xs ≡ true → AllByRecursion (λ n. n < m) xs
 all_below m [] h = tt
 all_below m (x ∷ xs) h = (ltb-true x m (and_left (ltb x m) (every (λ n. ltb n m) xs) h), all_below m xs (and_right (ltb x m) (every (λ n. ltb n m) xs) h))
 

@@ -2,7 +2,7 @@
 use Rattle.std.proofs.Common.{◌≡◌, ℕ, ◌≤◌, Bool, true, false, ◌&&◌, eqb, ◌⊎◌, List, [], ◌∷◌, ◌++◌, pos, sym, refl, subst, inl, inr, true≢false, arith, eqb-true}
 use mathlib.Core.List.Memᴰ
 use mathlib.Core.List.{Memᴰ}
-use Rattle.std.specs.List.{AllByRecursion as All}
+use Rattle.std.specs.List.{AllByRecursion}
 use Rattle.std.proofs.lemmas.Fmt.{decimal_digit}
 use Rattle.meaning.specs.Strands.{Permitted}
 use Rattle.grammar.specs.declared.leaf.Leaf.{Leaf}
@@ -20,7 +20,7 @@ use Rattle.engine.proofs.Closure.{all_mem}
 
 -- both readings of the choice, with any leaves that a fits
 module _ (leaves : List Leaf) (zero-fits : fit_all one_name leaves (a ∷ []) (0 ∷ []) ≡ true) (one-fits : fit_all one_name leaves (a ∷ []) (1 ∷ []) ≡ true) where
-  both_read : All (Reading twofold leaves one_name (a ∷ [])) ((0 ∷ []) ∷ (1 ∷ []) ∷ [])
+  both_read : AllByRecursion (Reading twofold leaves one_name (a ∷ [])) ((0 ∷ []) ∷ (1 ∷ []) ∷ [])
   both_read = (((permitted_tested twofold (0 ∷ [])).1 refl, zero-fits), (((permitted_tested twofold (1 ∷ [])).1 refl, one-fits), tt))
 
   -- and no other

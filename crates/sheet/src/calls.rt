@@ -1,5 +1,5 @@
 ghost use Rattle.std.specs.Prelude.{◌≡◌, ◌<◌, ◌≤◌, [], map, length, take, Decides};
-ghost use Rattle.std.specs.List.{AllByRecursion as All};
+ghost use Rattle.std.specs.List.{AllByRecursion};
 ghost use Rattle.sheet.specs.Calls.{Begins, Stamps, StandsThen, Strikes, ListsNext, Tells, Weighs, GivesFirst, short as lack, short_list as lack_list, struck, listed, Keeps};
 ghost use Rattle.engine.specs.Fits.{standing};
 ghost use Rattle.sheet.specs.Views.{ground_over, ground_of, stands_on};
@@ -56,7 +56,7 @@ fn log_begins<K: Kind, S: Scale>(
     amounts: &mut [S],
 ) -> bool
     requires names_room { 128 ≤ length names.now }
-    requires among { All (λ n. n < length names.now) stamps.now }
+    requires among { AllByRecursion (λ n. n < length names.now) stamps.now }
     requires numbers_room { 32768 ≤ length numbers.old }
     requires amounts_room { 8192 ≤ length amounts.old }
     ensures { Decides result (Begins (ground_over K.text plan.now names.now) (standing (map K.text names.now) stamps.now)) }

@@ -1,5 +1,5 @@
 ghost use Rattle.std.specs.Prelude.{◌≡◌, ◌-◌, ◌<◌, map, reverse, length, IfSome, Decides};
-ghost use Rattle.std.specs.List.{AllByRecursion as All};
+ghost use Rattle.std.specs.List.{AllByRecursion};
 ghost use Rattle.sheet.specs.Calls.{Checks, short as lack};
 ghost use Rattle.engine.specs.Fits.{fits as fits_number, stamped};
 ghost use Rattle.sheet.specs.Views.{ground_of};
@@ -14,7 +14,7 @@ use text::Kind;
 
 // Whether a stamp fits the leaf with this number, if there is one.
 fn fits_leaf<K: Kind>(leaves: &[Leaf], names: &[K], l: usize, stamp: &K) -> bool
-    requires { All (λ l. IfSome l.name (λ n. n < length names.now)) leaves.now }
+    requires { AllByRecursion (λ l. IfSome l.name (λ n. n < length names.now)) leaves.now }
     ensures { result ≡ fits_number (map K.text names.now) leaves.now (K.text stamp.now) l }
 {
     l < leaves.len() && fits(&leaves[l], names, stamp)

@@ -1,7 +1,7 @@
 -- Tests on bytes and lists of bytes.
 use Rattle.std.specs.Prelude.{◌≡◌, ℕ, ◌+◌, ◌<◌, Bool, true, false, List, length, take, Decides, ◌≢◌, slice_index, refl}
 use Rattle.std.proofs.Common.{arith}
-use Rattle.std.specs.List.{AllByRecursion as All}
+use Rattle.std.specs.List.{AllByRecursion}
 use Rattle.std.proofs.ByRecursion.{All-get_or, All-more, Decides-by_and}
 use Rattle.text.specs.Bytes.{every}
 
@@ -16,7 +16,7 @@ bool_decides : (b : Bool) → Decides b (b ≡ true)
 bool_decides b = (λ e. e, λ e. e)
 
 -- `every test` holds of just the lists of bytes that all pass
-pub every_all : (test : ℕ → Bool) (t : List ℕ) → Decides (every test t) (All (λ b. test b ≡ true) t)
+pub every_all : (test : ℕ → Bool) (t : List ℕ) → Decides (every test t) (AllByRecursion (λ b. test b ≡ true) t)
 every_all test = Decides-by_and test (λ b. test b ≡ true) (every test) (λ b. bool_decides (test b)) refl (λ _ _. refl)
 
 pub every_at : (test : ℕ → Bool) (t : List ℕ) (i : ℕ) → i < length t → every test t ≡ true → test (slice_index t i) ≡ true

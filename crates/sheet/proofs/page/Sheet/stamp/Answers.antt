@@ -1,5 +1,5 @@
 use Rattle.std.proofs.Common.{◌≡◌, ℕ, ◌+◌, ◌<◌, ◌≤◌, Bool, true, false, map, length, take, set, Decides, sym, refl, ◌∙◌, subst, arith, rules}
-use Rattle.std.specs.List.{AllByRecursion as All}
+use Rattle.std.specs.List.{AllByRecursion}
 use Rattle.engine.specs.Fits.{standing}
 use Rattle.sheet.specs.Calls.{Begins}
 use Rattle.sheet.specs.Views.{ground_over}
@@ -54,7 +54,7 @@ log_begins-live-requires g c =
     let h = room (length s.names.now) (length c.args.numbers.now) (length c.args.amounts.now) (sym c.in_default.ensures) in
     record {
       names_room = h.0;
-      among = subst (λ xs. All (λ k. k < length s.names.now) xs) (sym c.front-more.ensures) (all_below (length s.names.now) more (among_more g.K.Kind.text s.plan.now s.names.now c.front-known.result.now c.names.result (g.K.Kind.text c.args.name) (length c.args.numbers.now) (length c.args.amounts.now) c.in_default.ensures c.names.ensures c.front-known.ensures c.in-Some-find.number c.in-Some-find.ensures s.stamps s.count fits s.among));
+      among = subst (λ xs. AllByRecursion (λ k. k < length s.names.now) xs) (sym c.front-more.ensures) (all_below (length s.names.now) more (among_more g.K.Kind.text s.plan.now s.names.now c.front-known.result.now c.names.result (g.K.Kind.text c.args.name) (length c.args.numbers.now) (length c.args.amounts.now) c.in_default.ensures c.names.ensures c.front-known.ensures c.in-Some-find.number c.in-Some-find.ensures s.stamps s.count fits s.among));
       numbers_room = h.1;
       amounts_room = h.2;
     }
