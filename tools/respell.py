@@ -29,6 +29,7 @@ OTHER = {
     "bit-and": "bit-bit_and",
     "bit-or": "bit-bit_or",
     "No-name": "HasNoName",
+    "Lines-served": "LinesServed",
     "Laid_out": "LaidOut",
     "Goes_on": "GoesOn",
     "Bytes_of": "BytesOf",
@@ -92,7 +93,7 @@ def names(top):
                         found.add(alias)
                     if "-" in name and not own(top, m[1]):
                         foreign.add(name)
-    return (found - foreign - KEPT) | {n for n in OTHER if "-" not in n}, found & foreign
+    return (found - foreign - KEPT) | set(OTHER), found & foreign
 
 
 def respelled(line, which, ghost_only):

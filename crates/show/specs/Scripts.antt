@@ -21,7 +21,7 @@ Takes {K} text has c call m =
 
 -- the turns are of the calls that lines ask for from a place on, in their order, and of all of them if the run is whole; and
 -- each answer is right for the stamps that stood when its call came
-pub record Lines-served {K S V : Type 0} (d : Desk K S V) (has : List ℕ → Bool) (fit : Call K → Call K) (t : List ℕ) (from : ℕ)
+pub record LinesServed {K S V : Type 0} (d : Desk K S V) (has : List ℕ → Bool) (fit : Call K → Call K) (t : List ℕ) (from : ℕ)
     (before after : List (Turn K S)) (whole : Bool) : Type 0 where
   pub turned : List (Turn K S)
   pub added : after ≡ before ++ turned

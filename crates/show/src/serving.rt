@@ -1,7 +1,7 @@
 ghost use Rattle.std.specs.Prelude.{length, is_ok};
 ghost use Rattle.sheet.specs.Runs.{desk, fitted};
 ghost use Rattle.sheet.specs.Views.{ground_over};
-ghost use Rattle.show.specs.Scripts.{Lines-served};
+ghost use Rattle.show.specs.Scripts.{LinesServed};
 
 use super::script::{Script, count_calls};
 use plan::Plan;
@@ -20,7 +20,7 @@ pub fn serve_lines<'x, K: Kind, S: Scale>(
     amounts: &mut [S],
     turns: &mut Vec<Turn<K, S>>,
 ) -> Result<(), Stop>
-    ensures { Lines-served (desk K.text S.value S.join S.start S.extend (ground_over K.text plan.now names.now)) K.has (fitted (length list.old) (length numbers.old) (length amounts.old)) input.now from turns.old.items turns.new.items (is_ok result) }
+    ensures { LinesServed (desk K.text S.value S.join S.start S.extend (ground_over K.text plan.now names.now)) K.has (fitted (length list.old) (length numbers.old) (length amounts.old)) input.now from turns.old.items turns.new.items (is_ok result) }
 {
     let count = count_calls::<K>(input, from);
     let mut script = Script::new(input, from);
