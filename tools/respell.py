@@ -5,7 +5,7 @@ usage: python3 tools/respell.py [--dry] [FOLDER]
 
 A name with dashes is written in snake case, and in upper camel case where it begins with a capital: `within-limits`
 becomes `within_limits`, and `Walks-read-permitted` becomes `WalksReadPermitted`. Some names get another
-one: `ground` is a tactic today, three would fall together with names that stand beside them, four the kit's script had left
+one: `ground` is a tactic today (as a field it becomes `basis`), three would fall together with names that stand beside them, four the kit's script had left
 half respelled, and a few lemmas name functions that are called otherwise today. Touched are the names that a line of specs/ or proofs/ declares and the names given by `as`, wherever they stand in
 .antt files, in ghost lines and clauses of .rt files, and in must-fail edits; names of src/, of std and of goals stay.
 It was run once, on what the kit's own script for older repositories had left.
@@ -29,6 +29,7 @@ OTHER = {
     "bit-and": "bit-bit_and",
     "bit-or": "bit-bit_or",
     "No-name": "HasNoName",
+    "a-plan": "a_plan",
     "Lines-served": "LinesServed",
     "Laid_out": "LaidOut",
     "Goes_on": "GoesOn",
@@ -51,6 +52,10 @@ OTHER = {
     "maxZ-spreads": "int_max-spreads",
     "maxZ-assoc": "int_max-assoc",
 }
+
+
+# `ground` as a field of a record: its projection, its declaration, and where it is given
+FIELD = re.compile(r"(?<=\w\.)ground\b|(?<=^  pub )ground(?= :)|(?<=\{ )ground(?= =)|(?<=^  )ground(?= =)")
 
 
 def parts_of(line):
@@ -100,6 +105,7 @@ def respelled(line, which, ghost_only):
     if ghost_only and not GHOST.match(line):
         return line
     code, comment = (line, "") if ghost_only else parts_of(line)
+    code = FIELD.sub("basis", code)
     code = "".join(spelled(t) if t in which else t for t in SEP.split(code))
     comment = re.sub(r"`([^`]*)`", lambda m: "`" + "".join(spelled(t) if t in which and "-" in t else t for t in SEP.split(m[1])) + "`", comment)
     return code + comment

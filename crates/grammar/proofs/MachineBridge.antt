@@ -4,7 +4,7 @@ use Rattle.std.proofs.lemmas.Bool.Decides.{nat_tests}
 use Rattle.text.specs.Bytes.{digit, name_byte}
 use Rattle.meaning.specs.Shape.{Sort, lock, choice, interleave}
 use Rattle.grammar.specs.Written.{sign_of}
-use Rattle.grammar.specs.Form.{least, most, BytesOf, last_byte, more_bytes, Digits, Correction, unsigned, negative, Bay, in_bay, Marks, no_mark, correction_only, bay_only, both_marks, blank_leaf, name_leaf, an_item, a-plan, some_plans, Form, GoesOn, whole_leaf, whole_bracket, one_item, more_items, last_plan, more_plans}
+use Rattle.grammar.specs.Form.{least, most, BytesOf, last_byte, more_bytes, Digits, Correction, unsigned, negative, Bay, in_bay, Marks, no_mark, correction_only, bay_only, both_marks, blank_leaf, name_leaf, an_item, a_plan, some_plans, Form, GoesOn, whole_leaf, whole_bracket, one_item, more_items, last_plan, more_plans}
 use Rattle.grammar.specs.Machine.{Mode, fresh, opening, naming, colon, negating, shifting, at, housing, ended, Frame, State, dead, live, ends, step, run, accepts}
 use Rattle.grammar.proofs.MachineRuns.{run_++, run_dead, never, through, dot_step}
 
@@ -13,15 +13,15 @@ mutual
   pub data Closes : List Frame → List ℕ → Type 0 where
     done : Closes [] []
     close : {s : Sort} {k : ℕ} {fs : List Frame} {v : List ℕ} → least s ≤ k → After fs v → Closes (record { sort = s; count = k } ∷ fs) (41 ∷ v)
-    comma : {s : Sort} {k : ℕ} {fs : List Frame} {w v : List ℕ} → k < most s → Form a-plan w → Closes (record { sort = s; count = suc k } ∷ fs) v → Closes (record { sort = s; count = k } ∷ fs) (44 ∷ (w ++ v))
+    comma : {s : Sort} {k : ℕ} {fs : List Frame} {w v : List ℕ} → k < most s → Form a_plan w → Closes (record { sort = s; count = suc k } ∷ fs) v → Closes (record { sort = s; count = k } ∷ fs) (44 ∷ (w ++ v))
 
   -- what may follow a whole item
   pub data After : List Frame → List ℕ → Type 0 where
     over : {fs : List Frame} {v : List ℕ} → Closes fs v → After fs v
-    dot : {fs : List Frame} {w v : List ℕ} → Form a-plan w → Closes fs v → After fs (46 ∷ (w ++ v))
+    dot : {fs : List Frame} {w v : List ℕ} → Form a_plan w → Closes fs v → After fs (46 ∷ (w ++ v))
 
 abbrev Starts : List Frame → List ℕ → Type 0
-Starts fs u = (w : List ℕ) × (v : List ℕ) × Form a-plan w × Closes fs v × (u ≡ w ++ v)
+Starts fs u = (w : List ℕ) × (v : List ℕ) × Form a_plan w × Closes fs v × (u ≡ w ++ v)
 
 item_after : {fs : List Frame} {w v : List ℕ} → Form an_item w → After fs v → Starts fs (w ++ v)
 item_after {fs} {w} i (over {v = v} c) = (w, v, one_item i, c, refl)
@@ -35,7 +35,7 @@ abbrev Innermost : List Frame → List ℕ → List ℕ → Type 0
 Innermost [] w v = Unit {0}
 Innermost (f ∷ fs) w v = Inside f.sort f.count fs (w ++ v)
 
-inside : {fs : List Frame} {w v : List ℕ} → Form a-plan w → Closes fs v → Innermost fs w v
+inside : {fs : List Frame} {w v : List ℕ} → Form a_plan w → Closes fs v → Innermost fs w v
 inside p done = tt
 inside {w = w} p (close {v = v} l a) = (w ++ (41 ∷ []), v, last_plan l p, a, sym (append_assoc w (41 ∷ []) v))
 inside {w = w} p (comma {w = x} {v = v} l q c) =
@@ -186,13 +186,13 @@ nothing : {v : List ℕ} → Closes [] v → v ≡ []
 nothing done = refl
 
 -- what the machine accepts is of the form
-pub accepted : (t : List ℕ) → accepts (run (live [] fresh) t) ≡ true → Form a-plan t
+pub accepted : (t : List ℕ) → accepts (run (live [] fresh) t) ≡ true → Form a_plan t
 accepted t e =
     let m : Starts [] t = meant t (live [] fresh) e in
-    subst (Form a-plan) (sym (m.4 ∙ (ap (λ x. m.0 ++ x) (nothing m.3) ∙ append-nil m.0))) m.2
+    subst (Form a_plan) (sym (m.4 ∙ (ap (λ x. m.0 ++ x) (nothing m.3) ∙ append-nil m.0))) m.2
 
 -- and the other way round
-pub accepts_form : {t : List ℕ} → Form a-plan t → accepts (run (live [] fresh) t) ≡ true
+pub accepts_form : {t : List ℕ} → Form a_plan t → accepts (run (live [] fresh) t) ≡ true
 accepts_form f = let d = through f [] in ap accepts d.2 ∙ d.1
 
 -- from every live state some text completes.

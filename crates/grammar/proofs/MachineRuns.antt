@@ -4,7 +4,7 @@ use Rattle.std.proofs.lemmas.Bool.Decides.{nat_tests}
 use Rattle.text.specs.Bytes.{digit, name_byte}
 use Rattle.meaning.specs.Shape.{Sort, lock, choice, interleave}
 use Rattle.grammar.specs.Written.{sign_of}
-use Rattle.grammar.specs.Form.{least, most, BytesOf, last_byte, more_bytes, Digits, NameRun, Correction, unsigned, negative, Bay, in_bay, Marks, no_mark, correction_only, bay_only, both_marks, Leaf, blank_leaf, name_leaf, Phrase, an_item, a-plan, some_plans, Form, whole_leaf, whole_bracket, one_item, more_items, last_plan, more_plans}
+use Rattle.grammar.specs.Form.{least, most, BytesOf, last_byte, more_bytes, Digits, NameRun, Correction, unsigned, negative, Bay, in_bay, Marks, no_mark, correction_only, bay_only, both_marks, Leaf, blank_leaf, name_leaf, Phrase, an_item, a_plan, some_plans, Form, whole_leaf, whole_bracket, one_item, more_items, last_plan, more_plans}
 use Rattle.grammar.specs.Machine.{Mode, fresh, opening, naming, colon, negating, shifting, at, housing, ended, Frame, State, dead, live, ends, step, run, ending}
 
 pub run_++ : (s : State) (t u : List ℕ) → run s (t ++ u) ≡ run (run s t) u
@@ -84,7 +84,7 @@ sign_step interleave fs = refl
 
 abbrev pub Through : Phrase → List ℕ → Type 0
 Through an_item w = (fs : List Frame) → Done fs (run (live fs fresh) w)
-Through a-plan w = (fs : List Frame) → Done fs (run (live fs fresh) w)
+Through a_plan w = (fs : List Frame) → Done fs (run (live fs fresh) w)
 Through (some_plans s k) w = (fs : List Frame) → run (live (record { sort = s; count = k } ∷ fs) fresh) w ≡ live fs ended
 
 -- from an ended item over one byte more

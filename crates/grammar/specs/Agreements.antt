@@ -1,6 +1,6 @@
 -- The grammar and the machine agree, on whole texts, on their beginnings and on every refusal.
 use Rattle.std.specs.Prelude.{◌≡◌, ℕ, Bool, true, ◌↔◌, List, []}
-use Rattle.grammar.specs.Form.{Form, a-plan, GoesOn}
+use Rattle.grammar.specs.Form.{Form, a_plan, GoesOn}
 use Rattle.grammar.specs.Machine.{Mode, fresh, Frame, live, run, accepts}
 use Rattle.grammar.specs.Faults.{Refuses, First}
 use Rattle.grammar.specs.Readings.{RefusedAt, FirstRefused, Unrefused}
@@ -8,7 +8,7 @@ use Rattle.grammar.specs.declared.refusal.Refusal.{Refusal}
 
 -- the machine accepts exactly the texts of the form
 abbrev pub FormsAreAccepted : Type 0
-FormsAreAccepted = (t : List ℕ) → Form a-plan t ↔ (accepts (run (live [] fresh) t) ≡ true)
+FormsAreAccepted = (t : List ℕ) → Form a_plan t ↔ (accepts (run (live [] fresh) t) ≡ true)
 
 -- it lives on exactly the texts with which some text of the form begins
 abbrev pub BeginningsLive : Type 0

@@ -52,7 +52,7 @@ pub data Leaf : List ℕ → Type 0 where
 
 -- what a stretch of text is: an item; a plan; or the k-th plan of a bracket with all that follows it, to the `)`
 pub data Phrase : Type 0 where
-  an_item a-plan : Phrase
+  an_item a_plan : Phrase
   some_plans : Sort → ℕ → Phrase
 
 -- the grammar:
@@ -63,12 +63,12 @@ pub data Phrase : Type 0 where
 pub data Form : Phrase → List ℕ → Type 0 where
   whole_leaf : {w : List ℕ} → Leaf w → Form an_item w
   whole_bracket : {s : Sort} {w : List ℕ} → Form (some_plans s 1) w → Form an_item (sign_of s ∷ 40 ∷ w)
-  one_item : {w : List ℕ} → Form an_item w → Form a-plan w
-  more_items : {w v : List ℕ} → Form an_item w → Form a-plan v → Form a-plan (w ++ (46 ∷ v))
-  last_plan : {s : Sort} {k : ℕ} {w : List ℕ} → least s ≤ k → Form a-plan w → Form (some_plans s k) (w ++ (41 ∷ []))
+  one_item : {w : List ℕ} → Form an_item w → Form a_plan w
+  more_items : {w v : List ℕ} → Form an_item w → Form a_plan v → Form a_plan (w ++ (46 ∷ v))
+  last_plan : {s : Sort} {k : ℕ} {w : List ℕ} → least s ≤ k → Form a_plan w → Form (some_plans s k) (w ++ (41 ∷ []))
   more_plans : {s : Sort} {k : ℕ} {w v : List ℕ}
-      → k < most s → Form a-plan w → Form (some_plans s (suc k)) v → Form (some_plans s k) (w ++ (44 ∷ v))
+      → k < most s → Form a_plan w → Form (some_plans s (suc k)) v → Form (some_plans s k) (w ++ (44 ∷ v))
 
 -- some text of the form begins so
 abbrev pub GoesOn : List ℕ → Type 0
-GoesOn t = (u : List ℕ) × Form a-plan (t ++ u)
+GoesOn t = (u : List ℕ) × Form a_plan (t ++ u)

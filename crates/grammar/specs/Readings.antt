@@ -5,7 +5,7 @@ use Rattle.text.specs.Bytes.{digit, name_byte, between, Longest}
 use Rattle.text.specs.Decimal.{says}
 use Rattle.meaning.specs.Shape.{Sort}
 use Rattle.grammar.specs.Written.{sign_of}
-use Rattle.grammar.specs.Form.{Form, a-plan, GoesOn}
+use Rattle.grammar.specs.Form.{Form, a_plan, GoesOn}
 use Rattle.grammar.specs.Refusals.{code}
 use Rattle.grammar.specs.declared.refusal.Refusal.{Refusal}
 use Rattle.grammar.specs.declared.refusal.Refusal.TheVariants as refusal
@@ -15,7 +15,7 @@ pub record Stops (t : List ℕ) (p : ℕ) : Type 0 where
   pub within : p ≤ length t
   pub so_far : GoesOn (take p t)
   pub no_further : p < length t → GoesOn (take (p + 1) t) → ⊥
-  pub early : p ≡ length t → Form a-plan t → ⊥
+  pub early : p ≡ length t → Form a_plan t → ⊥
 
 -- an item begins at p: the text up to p goes on with `_`, which stands only where an item begins
 pub record ItemAt (t : List ℕ) (p : ℕ) : Type 0 where
@@ -124,7 +124,7 @@ pub record FirstRefused (has : List ℕ → Bool) (t : List ℕ) (f : Refusal) :
 
 -- a text of the form that is refused for nothing
 pub record Unrefused (has : List ℕ → Bool) (t : List ℕ) : Type 0 where
-  pub form : Form a-plan t
+  pub form : Form a_plan t
   pub nothing : (f : Refusal) → RefusedAt has t f → ⊥
 
 -- every text is either unrefused or has a first refusal, one only, and never both

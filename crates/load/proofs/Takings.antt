@@ -18,7 +18,7 @@ texts_push done at u = map-append (λ x. x.1) done ((at, u) ∷ [])
 
 -- what a stamp of a line does, where the lines before it stand: over the ground g, with the line's text u as the name's
 pub record PutTo (g h : Ground) (σ : List Text) (t u : Text) (lack : Option ℕ) (done : List Placed) : Type 0 where
-  pub ground_over : h ≡ g
+  pub basis : h ≡ g
   pub enough : lack ≡ None
   pub stands : σ ≡ texts_of done
   pub text : t ≡ u
@@ -41,7 +41,7 @@ pub put_to : {K : Type 0} {G : Ghosts K} (text : K → Text) (s t : Sheet K G) (
     → m ≡ n → a ≡ b → short (length (ground_of text t).texts) n b ≡ None → stands_on text s ≡ texts_of done → text x ≡ u
     → PutTo (ground_of text t) (ground_of text s) (stands_on text s) (text x) u (short (length (ground_of text s).texts) m a) done
 put_to text s t x u m n a b done p q d e h k same = record {
-  ground_over = same_ground text s t p q;
+  basis = same_ground text s t p q;
   enough = ap (λ y. short (length (map text y.now)) m a) q
       ∙ (ap (λ i. short (length (map text t.names.now)) i a) d ∙ (ap (λ i. short (length (map text t.names.now)) n i) e ∙ h));
   stands = k;
@@ -53,7 +53,7 @@ pub follows_so : (g h : Ground) (σ : List Text) (t u : Text) (lack : Option ℕ
     → Stamps h σ t lack (Ok tt) → Follows g (texts_of done) u
 follows_so g h σ t u lack done p s =
     let s1 : Follows h σ t = subst (λ l. Stamps h σ t l (Ok tt)) p.enough s in
-    let s2 : Follows g σ t = subst (λ k. Follows k σ t) p.ground_over s1 in
+    let s2 : Follows g σ t = subst (λ k. Follows k σ t) p.basis s1 in
     let s3 : Follows g (texts_of done) t = subst (λ ρ. Follows g ρ t) p.stands s2 in
     subst (λ v. Follows g (texts_of done) v) p.text s3
 
@@ -63,7 +63,7 @@ pub follows_not : (g h : Ground) (σ : List Text) (t u : Text) (lack : Option �
 follows_not g h σ t u lack done e p s f =
     let f1 : Follows g (texts_of done) t = subst (λ v. Follows g (texts_of done) v) (sym p.text) f in
     let f2 : Follows g σ t = subst (λ ρ. Follows g ρ t) (sym p.stands) f1 in
-    let f3 : Follows h σ t = subst (λ k. Follows k σ t) (sym p.ground_over) f2 in
+    let f3 : Follows h σ t = subst (λ k. Follows k σ t) (sym p.basis) f2 in
     (subst (λ l. Stamps h σ t l (Err e)) p.enough s).1 f3
 
 -- and then it stands behind the others

@@ -27,7 +27,7 @@ stands_one g σ t None τ ρ (inr (f, a)) (inr (h, b)) = a ∙ sym b
 
 module _ {K S V : Type 0} (d : Desk K S V) where
   pub after_one : AfterIsOne d
-  after_one σ (Stamp name x) τ ρ a b = stands_one d.ground_over σ (d.text name) (lacks d x) τ ρ a b
+  after_one σ (Stamp name x) τ ρ a b = stands_one d.basis σ (d.text name) (lacks d x) τ ρ a b
   after_one σ Strike τ ρ a b = a ∙ sym b
   after_one σ (Next x) τ ρ a b = a ∙ sym b
   after_one σ (Distance x) τ ρ a b = a ∙ sym b
@@ -35,43 +35,43 @@ module _ {K S V : Type 0} (d : Desk K S V) where
   after_one σ (Reading x) τ ρ a b = a ∙ sym b
 
   -- some log begins with what stands after a call
-  after_begun : (σ : List Text) (c : Call K) (τ : List Text) → After d σ c τ → Begins d.ground_over σ → Begins d.ground_over τ
-  after_begun σ (Stamp name x) τ a b = still_begun d.ground_over σ (d.text name) (lacks d x) τ a b
-  after_begun σ Strike τ a b = subst (Begins d.ground_over) (sym a) (begun_take d.ground_over.shape d.ground_over.leaves d.ground_over.texts (length σ - 1) σ b)
-  after_begun σ (Next x) τ a b = subst (Begins d.ground_over) (sym a) b
-  after_begun σ (Distance x) τ a b = subst (Begins d.ground_over) (sym a) b
-  after_begun σ (Amount x) τ a b = subst (Begins d.ground_over) (sym a) b
-  after_begun σ (Reading x) τ a b = subst (Begins d.ground_over) (sym a) b
+  after_begun : (σ : List Text) (c : Call K) (τ : List Text) → After d σ c τ → Begins d.basis σ → Begins d.basis τ
+  after_begun σ (Stamp name x) τ a b = still_begun d.basis σ (d.text name) (lacks d x) τ a b
+  after_begun σ Strike τ a b = subst (Begins d.basis) (sym a) (begun_take d.basis.shape d.basis.leaves d.basis.texts (length σ - 1) σ b)
+  after_begun σ (Next x) τ a b = subst (Begins d.basis) (sym a) b
+  after_begun σ (Distance x) τ a b = subst (Begins d.basis) (sym a) b
+  after_begun σ (Amount x) τ a b = subst (Begins d.basis) (sym a) b
+  after_begun σ (Reading x) τ a b = subst (Begins d.basis) (sym a) b
 
   pub lawful_more : (σ : List Text) (ts : List (Turn K S)) (τ : List Text) (t : Turn K S) (ρ : List Text) → Lawful d σ ts τ → Right d τ t.call t.answer → After d τ t.call ρ → Lawful d σ (ts ++ (t ∷ [])) ρ
   lawful_more σ [] τ t ρ l r a = (subst (λ x. Right d x t.call t.answer) (sym l) r, (ρ, subst (λ x. After d x t.call ρ) (sym l) a, refl))
   lawful_more σ (u ∷ us) τ t ρ (h, (x, a0, rest)) r a = (h, (x, a0, lawful_more x us τ t ρ rest r a))
 
   -- every turn of a lawful transcript was answered rightly, and some log began with what stood
-  stood_right : (σ : List Text) (ts : List (Turn K S)) (τ ρ : List Text) (t : Turn K S) → Lawful d σ ts τ → Stood d σ ts ρ t → Begins d.ground_over σ → Right d ρ t.call t.answer × Begins d.ground_over ρ
+  stood_right : (σ : List Text) (ts : List (Turn K S)) (τ ρ : List Text) (t : Turn K S) → Lawful d σ ts τ → Stood d σ ts ρ t → Begins d.basis σ → Right d ρ t.call t.answer × Begins d.basis ρ
   stood_right σ [] τ ρ t l s b = absurd s
   stood_right σ (u ∷ us) τ ρ t (h, (x, a, rest)) (inl (is, same)) b =
-      (subst (λ y. Right d y t.call t.answer) (sym is) (subst (λ v. Right d σ v.call v.answer) (sym same) h), subst (Begins d.ground_over) (sym is) b)
+      (subst (λ y. Right d y t.call t.answer) (sym is) (subst (λ v. Right d σ v.call v.answer) (sym same) h), subst (Begins d.basis) (sym is) b)
   stood_right σ (u ∷ us) τ ρ t (h, (x, a, rest)) (inr (y, ay, s)) b =
       let same : y ≡ x = after_one σ u.call y x ay a in
       stood_right x us τ ρ t rest (subst (λ z. Stood d z us ρ t) same s) (after_begun σ u.call x a b)
 
   full_none : (x : Lengths) → Full d x → lacks d x ≡ None
-  full_none x (n, m, a) = enough (length d.ground_over.texts) x.numbers x.amounts n m a
+  full_none x (n, m, a) = enough (length d.basis.texts) x.numbers x.amounts n m a
 
-  module _ (ts : List (Turn K S)) (τ : List Text) (law : Lawful d [] ts τ) (begun : Begins d.ground_over []) where
+  module _ (ts : List (Turn K S)) (τ : List Text) (law : Lawful d [] ts τ) (begun : Begins d.basis []) where
     pub amounts_joined : AmountsAreJoined d ts
     amounts_joined σ x r s f =
         let h = stood_right [] ts τ σ (record { call = Amount x; answer = Weighed r }) law s begun in
-        subst (λ o. Weighs d.value d.join d.start d.extend d.ground_over σ o r) (full_none x f) h.0
+        subst (λ o. Weighs d.value d.join d.start d.extend d.basis σ o r) (full_none x f) h.0
 
     pub distances_told : DistancesAreTold d ts
     distances_told σ x r s f =
         let h = stood_right [] ts τ σ (record { call = Distance x; answer = Measured r }) law s begun in
-        go r (subst (λ o. Tells d.ground_over σ o r) (full_none x f) h.0) h.1
+        go r (subst (λ o. Tells d.basis σ o r) (full_none x f) h.0) h.1
       where
-        go : (r : Result (ℕ × ℕ) Refusal) → Tells d.ground_over σ None r → Begins d.ground_over σ
-            → (least : ℕ) × (most : ℕ) × (r ≡ Ok (least, most)) × A.Distance d.ground_over.shape d.ground_over.leaves d.ground_over.texts σ least most
+        go : (r : Result (ℕ × ℕ) Refusal) → Tells d.basis σ None r → Begins d.basis σ
+            → (least : ℕ) × (most : ℕ) × (r ≡ Ok (least, most)) × A.Distance d.basis.shape d.basis.leaves d.basis.texts σ least most
         go (Ok y) told b = (y.0, y.1, refl, told)
         go (Err e) told b = absurd (told.1 b)
 
@@ -114,7 +114,7 @@ fitted_same {K} {o} {p} {w} {v} {n} {m} k a b c = ap (λ (x : ℕ). fitted x w n
 
 -- what a service leaves
 pub served : {K S V C : Type 0} {d : Desk K S V} {asks : C → Answer S → Call K → C → Type 0} {fit : Call K → Call K} {clerk clerk' : C} {last : Answer S} {σ : List Text} {done : ℕ} {before log : List (Turn K S)}
-    → Going d asks fit clerk clerk' last σ done before log → (turns : ℕ) → done ≤ turns → Begins d.ground_over [] → (log' : List (Turn K S)) → log' ≡ log → (whole : Bool) → (whole ≡ true → done ≡ turns) → Served d asks fit clerk turns before log' whole
+    → Going d asks fit clerk clerk' last σ done before log → (turns : ℕ) → done ≤ turns → Begins d.basis [] → (log' : List (Turn K S)) → log' ≡ log → (whole : Bool) → (whole ≡ true → done ≡ turns) → Served d asks fit clerk turns before log' whole
 served {d = d} {clerk' = clerk'} {σ = σ} h turns few begun log' same whole all = record {
   turned = h.turned;
   added = same ∙ h.added;

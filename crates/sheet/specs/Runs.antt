@@ -75,7 +75,7 @@ OfReading (Read r) P = P (listing r)
 
 -- what a transcript is judged by: what the sheet stands on, the text of a name, and the scale of the amounts
 pub record Desk (K S V : Type 0) : Type 0 where
-  pub ground_over : Ground
+  pub basis : Ground
   pub text : K → Text
   pub value : S → V
   pub join : V → V → V
@@ -83,7 +83,7 @@ pub record Desk (K S V : Type 0) : Type 0 where
   pub extend : V → Marks → V
 
 abbrev pub desk : {K S V : Type 0} → (K → Text) → (S → V) → (V → V → V) → V → (V → Marks → V) → Ground → Desk K S V
-desk text value join start extend g = record { ground_over = g; text = text; value = value; join = join; start = start; extend = extend }
+desk text value join start extend g = record { basis = g; text = text; value = value; join = join; start = start; extend = extend }
 
 -- the lengths that a call asks for; a strike is lent nothing
 abbrev pub lengths_of : {K : Type 0} → Call K → Lengths
@@ -110,23 +110,23 @@ fitted l n a (Reading x) = Reading (cut_down l n a x)
 module _ {K S V : Type 0} (d : Desk K S V) where
   -- what is too short for a call with buffers of these lengths
   abbrev pub lacks : Lengths → Option ℕ
-  lacks x = short (length d.ground_over.texts) x.numbers x.amounts
+  lacks x = short (length d.basis.texts) x.numbers x.amounts
 
   abbrev pub lacks_list : Lengths → Option ℕ
-  lacks_list x = short_list (length d.ground_over.texts) x.list x.numbers x.amounts
+  lacks_list x = short_list (length d.basis.texts) x.list x.numbers x.amounts
 
   -- the answer is right for the stamps that stand when the call comes
   abbrev pub Right : List Text → Call K → Answer S → Type 0
-  Right σ (Stamp name x) a = OfStamp a (λ r. Stamps d.ground_over σ (d.text name) (lacks x) r)
+  Right σ (Stamp name x) a = OfStamp a (λ r. Stamps d.basis σ (d.text name) (lacks x) r)
   Right σ Strike a = OfStrike a (λ r. Strikes σ r)
-  Right σ (Next x) a = OfNext a (λ r. ListsNext d.ground_over σ (lacks_list x) r)
-  Right σ (Distance x) a = OfDistance a (λ r. Tells d.ground_over σ (lacks x) r)
-  Right σ (Amount x) a = OfAmount a (λ r. Weighs d.value d.join d.start d.extend d.ground_over σ (lacks x) r)
-  Right σ (Reading x) a = OfReading a (λ r. GivesFirst d.ground_over σ (lacks_list x) r)
+  Right σ (Next x) a = OfNext a (λ r. ListsNext d.basis σ (lacks_list x) r)
+  Right σ (Distance x) a = OfDistance a (λ r. Tells d.basis σ (lacks x) r)
+  Right σ (Amount x) a = OfAmount a (λ r. Weighs d.value d.join d.start d.extend d.basis σ (lacks x) r)
+  Right σ (Reading x) a = OfReading a (λ r. GivesFirst d.basis σ (lacks_list x) r)
 
   -- the stamps τ that stand after the call: by the plan, the names and the call alone
   abbrev pub After : List Text → Call K → List Text → Type 0
-  After σ (Stamp name x) τ = StandsThen d.ground_over σ (d.text name) (lacks x) τ
+  After σ (Stamp name x) τ = StandsThen d.basis σ (d.text name) (lacks x) τ
   After σ Strike τ = τ ≡ struck σ
   After σ (Next x) τ = τ ≡ σ
   After σ (Distance x) τ = τ ≡ σ
@@ -145,21 +145,21 @@ module _ {K S V : Type 0} (d : Desk K S V) where
 
   -- the names and the buffers are as long as needed
   abbrev pub Full : Lengths → Type 0
-  Full x = (128 ≤ length d.ground_over.texts) × (32768 ≤ x.numbers) × (8192 ≤ x.amounts)
+  Full x = (128 ≤ length d.basis.texts) × (32768 ≤ x.numbers) × (8192 ≤ x.amounts)
 
   -- with full buffers an amount is the join of the amounts of all readings of the standing stamps, and it is refused (12)
   -- exactly where there is none
   abbrev pub AmountsAreJoined : List (Turn K S) → Type 0
   AmountsAreJoined turns = (σ : List Text) (x : Lengths) (r : Result S Refusal)
       → Stood [] turns σ (record { call = Amount x; answer = Weighed r }) → Full x
-      → Weighs d.value d.join d.start d.extend d.ground_over σ None r
+      → Weighs d.value d.join d.start d.extend d.basis σ None r
 
   -- with full buffers a distance is the least and the greatest number of stamps that any log that begins with the standing
   -- stamps has beyond them, and it is never refused
   abbrev pub DistancesAreTold : List (Turn K S) → Type 0
   DistancesAreTold turns = (σ : List Text) (x : Lengths) (r : Result (ℕ × ℕ) Refusal)
       → Stood [] turns σ (record { call = Distance x; answer = Measured r }) → Full x
-      → (least : ℕ) × (most : ℕ) × (r ≡ Ok (least, most)) × A.Distance d.ground_over.shape d.ground_over.leaves d.ground_over.texts σ least most
+      → (least : ℕ) × (most : ℕ) × (r ≡ Ok (least, most)) × A.Distance d.basis.shape d.basis.leaves d.basis.texts σ least most
 
   -- what stands after a call is one list of stamps
   abbrev pub AfterIsOne : Type 0
