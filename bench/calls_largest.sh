@@ -1,6 +1,6 @@
 #!/usr/bin/env bash
 # Prints how long calls on a sheet of the largest plan take: 4,096 cuts, 65 stamps, every question after each. Not a test.
-# Build the program first: rt check desk
+# Build the program first: (cd crates/sheet_desk && rt run < ../../samples/calls.txt)
 set -eu
 cd "$(dirname "$0")/.."
 name() { printf '%s' "$1"; printf "\\x$(printf %x $((97 + $2 % 26)))\\x$(printf %x $((97 + $2 / 26)))"; }
@@ -18,6 +18,6 @@ trap 'rm -f "$input"' EXIT
 } > "$input"
 calls=$(($(wc -l < "$input") - 1))
 start=$(date +%s%N)
-target/bin/desk < "$input" | sed -n '1p;$p' | cut -c1-60
+crates/sheet_desk/out/sheet_desk < "$input" | sed -n '1p;$p' | cut -c1-60
 end=$(date +%s%N)
 echo "$calls calls in $(((end - start) / 1000000)) ms"

@@ -3,12 +3,14 @@
 
 usage: python3 tools/respell.py [--dry] [FOLDER]
 
-A name with dashes is written in snake case, and in upper camel case where it begins with a capital: `within-limits`
-becomes `within_limits`, and `Walks-read-permitted` becomes `WalksReadPermitted`. Some names get another
-one: `ground` is a tactic today (as a field it becomes `basis`), three would fall together with names that stand beside them, four the kit's script had left
-half respelled, and a few lemmas name functions that are called otherwise today. Touched are the names that a line of specs/ or proofs/ declares and the names given by `as`, wherever they stand in
-.antt files, in ghost lines and clauses of .rt files, and in must-fail edits; names of src/, of std and of goals stay.
-It was run once, on what the kit's own script for older repositories had left.
+A name with dashes is written in snake case, and in upper camel case where it begins with a capital: `within-limits` becomes
+`within_limits`, and `Walks-read-permitted` becomes `WalksReadPermitted`. Some names get another one: `ground` is a tactic today (as
+a field it becomes `basis`), three would fall together with names that stand beside them, four the kit's script had left half
+respelled, and a few lemmas name functions that are called otherwise today. Touched are the names that a line of specs/ or
+proofs/ declares and the names given by `as`, wherever they stand in .antt files, in ghost lines and clauses of .rt files, and in
+must-fail edits; names of src/, of std and of goals stay.
+It is for what the kit's own script for older repositories leaves, and was run once; where it had missed a name then, the name was
+mended by hand and the script too, so that it gives today's names.
 """
 
 import collections

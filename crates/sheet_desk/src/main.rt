@@ -8,7 +8,7 @@ use std::io::Read;
 use text::{Kind, Word};
 
 const USAGE: &str =
-    "desk: no input; the first line is a plan's text, and each further line one of: stamp NAME, strike, next, distance, amount, reading";
+    "sheet_desk: no input; the first line is a plan's text, and each further line one of: stamp NAME, strike, next, distance, amount, reading";
 
 fn main(rt: HostRuntime) -> io::Result<()> {
     let mut input = Vec::new(rt.alloc());
