@@ -1,25 +1,40 @@
 -- Directories, entry by entry.
-use Rattle.std.proofs.Common.{◌≡◌, ℕ, zero, suc, ◌+◌, ◌-◌, ◌<◌, ◌≤◌, min, Bool, true, false, ◌⊎◌, List, [], ◌∷◌, ◌++◌, map, length, get_or, take, drop, set, Some, None, Decides, Option, sym, refl, ap, ◌∙◌, subst, inl, inr, append_assoc, append-nil, le_of_suc-le-suc, arith}
+use Rattle.std.proofs.Common.{◌≡◌, ℕ, zero, suc, ◌+◌, ◌-◌, ◌<◌, ◌≤◌, min, Bool, true, false, ◌⊎◌, List, [], ◌∷◌, ◌++◌, map, length, get_or, take, drop, set, Some, None, ◌≢◌, Decides, Option, sym, refl, ap, ◌∙◌, subst, inl, inr, append_assoc, append-nil, le_of_suc-le-suc, arith}
 use native.Mathlib.Nat.{sub-zero}
-use Rattle.std.specs.List.{HoldsAt}
+use Rattle.std.specs.List.{AllWithin, HoldsAt}
+use Rattle.std.specs.Option.{MatchOption}
 use Rattle.std.specs.Str.{bytes_eq}
 use Rattle.std.proofs.lemmas.Slice.Eq.{bytes_eq-Decides}
 use Rattle.std.proofs.lemmas.Bool.Decides.{Decides-by_or}
 use Rattle.std.proofs.lemmas.Bool.{cond-true, cond-false, cases_lt}
-use Rattle.std.proofs.lemmas.List.{length-map, length-append, length-set, get_or_default, map-append, take_at, take_more_set, take_all, drop-drop, drop-set-lt, drop_more, drop_all}
+use Rattle.std.proofs.lemmas.List.{get_or-map, length-map, length-append, length-set, get_or_default, map-append, take_at, take_more_set, take_all, drop-drop, drop-set-lt, drop_more, drop_all}
 use Rattle.text.specs.Directory.{Text, holds, added, added_all, directory, Finds, Adds, Gathers}
 use Rattle.text.specs.declared.directory.Entry.{Entry}
 use Rattle.text.specs.declared.directory.Entry.TheVariants.{Known, New}
 use Rattle.text.specs.Bools.{refute}
 
-get_or-map : {X : Type 0} (f : X → Text) (xs : List X) (i : ℕ) (d : X) → i < length xs → get_or (map f xs) i [] ≡ f (get_or xs i d)
-get_or-map f [] i d h = absurd (omega arith)
-get_or-map f (x ∷ xs) zero d h = refl
-get_or-map f (x ∷ xs) (suc i) d h = get_or-map f xs i d (le_of_suc-le-suc h)
+-- an entry of a list, by its place
+entry : {X : Type 0} (xs : List X) (i : ℕ) → i < length xs → X
+entry [] i h = absurd (omega arith)
+entry (x ∷ xs) zero h = x
+entry (x ∷ xs) (suc i) h = entry xs i (le_of_suc-le-suc h)
 
 -- the text of the name that is read at a place
 pub text_at : {K : Type 0} (text : K → Text) (names : List K) (i : ℕ) (x : K) → i < length names → x ≡ get_or names i x → get_or (map text names) i [] ≡ text x
-text_at text names i x h e = get_or-map text names i x h ∙ ap text (sym e)
+text_at text names i x h e = get_or-map text names i x [] h ∙ ap text (sym e)
+
+-- the first name that has a text is where the text is found
+pub found : {K : Type 0} (text : K → Text) (names : List K) (t : Text) (r : Option ℕ) → MatchOption r (AllWithin (λ x. text x ≢ t) names 0 (length names)) (λ i. (i < length names) × HoldsAt (λ x. text x ≡ t) names i × AllWithin (λ x. text x ≢ t) names 0 i) → Finds (map text names) t r
+found text names t None a = λ k h e.
+    let i : k < length names = omega (arith, length-map names text, h) in
+    let x = entry names k i in
+    a k x (omega arith) i (sym (get_or-map text names k x [] i) ∙ e)
+found text names t (Some i) a =
+    let x = entry names i a.0 in (
+      omega (arith, length-map names text, a.0),
+      get_or-map text names i x [] a.0 ∙ a.1 x,
+      λ k h e. let j : k < length names = omega (arith, a.0) in let y = entry names k j in a.2 k y (omega arith) h (sym (get_or-map text names k y [] j) ∙ e),
+    )
 
 pub length_texts : {K : Type 0} (text : K → Text) (names : List K) → length (map text names) ≡ length names
 length_texts text names = length-map names text

@@ -23,16 +23,15 @@ impl Kind for Badge {
     ghost shaped = { λ t h. badge_shaped t h };
 
     fn of_text(bytes: &[u8]) -> Option<Badge> {
-        match number(bytes, 0, 65535) {
-            Some(n) => Some(Badge { number: n as u16 }),
-            None => None,
-        }
+        let n = number(bytes, 0, 65535)?;
+        Some(Badge { number: n as u16 })
     }
 
     fn write(&self, buffer: &mut [u8]) -> Option<usize> {
         write_number(u32::from(self.number), buffer)
     }
 
+    // kept: as at `Kind::same`
     fn same(&self, other: &Badge) -> bool {
         self.number == other.number
     }

@@ -5,14 +5,14 @@ ghost use Rattle.text.specs.Bytes.{digit, letter, name_byte};
 pub fn is_digit(b: u8) -> bool
     ensures { result ≡ digit b }
 {
-    b >= b'0' && b <= b'9'
+    matches!(b, b'0'..=b'9')
 }
 
 /// Whether a byte is one of `a` to `z`.
 pub fn is_letter(b: u8) -> bool
     ensures { result ≡ letter b }
 {
-    b >= b'a' && b <= b'z'
+    matches!(b, b'a'..=b'z')
 }
 
 /// Whether a byte may stand in a name: a lower-case letter or a digit.

@@ -4,7 +4,7 @@ ghost use Rattle.text.specs.Directory.{Finds, Adds, Gathers};
 use super::kind::Kind;
 
 /// The number of a name in a directory.
-#[derive(Clone, Copy)]
+#[derive(Clone, Copy, Debug, PartialEq, Eq)]
 pub enum Entry {
     /// It was there before.
     Known(usize),
@@ -16,16 +16,12 @@ pub enum Entry {
 pub fn find<K: Kind>(names: &[K], name: &K) -> Option<usize>
     ensures { Finds (map K.text names.now) (K.text name.now) result }
 {
-    for (i, x) in names.iter().enumerate() {
-        if x.same(name) {
-            return Some(i);
-        }
-    }
-    None
+    names.iter().position(|x| x.same(name))
 }
 
 /// Puts a name to the directory that the first `len` names of a buffer are: a new one is written behind them.
 /// `None` where it is new and there is no room; the buffer then stays as it was.
+// kept: the directory is the front of a buffer that the caller lends, whose other entries stay as they are
 pub fn add<K: Kind>(names: &mut [K], len: usize, name: K) -> Option<Entry>
     ensures { Adds K.text names.old names.new len name result }
 {
@@ -47,12 +43,8 @@ pub fn gather<K: Kind>(list: &[K], names: &mut [K]) -> Option<usize>
 {
     let mut len = 0;
     for x in list {
-        let Some(entry) = add(names, len, *x) else {
-            return None;
-        };
-        match entry {
-            Entry::Known(_) => {}
-            Entry::New(n) => len = n + 1,
+        if let Entry::New(n) = add(names, len, *x)? {
+            len = n + 1;
         }
     }
     Some(len)

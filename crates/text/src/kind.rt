@@ -20,6 +20,7 @@ pub trait Kind: Copy {
         ensures { Writes (text self.now) buffer.old buffer.new result };
 
     /// Whether two names have the same text.
+    // kept: `PartialEq` would say when two names are one, and a kind may have several names with one text
     fn same(&self, other: &Self) -> bool
         ensures { Decides result (text self.now ≡ text other.now) };
 

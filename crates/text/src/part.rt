@@ -1,12 +1,14 @@
 ghost use Rattle.std.specs.Prelude.{◌≡◌, ◌≤◌, length, IfOk};
+ghost use Rattle.std.specs.Result.{result_ok};
 ghost use Rattle.text.specs.Bytes.{Longest, digit, name_byte};
 ghost use Rattle.text.specs.Parts.{Signs, Stands, AllParts, sign_byte, part_bytes, number_may_begin};
 
 use super::byte::{is_digit, is_name_byte};
+use super::run::run_end;
 use std::alloc::{AllocError, Global};
 
 /// A sign of a plan's text.
-#[derive(Clone, Copy, PartialEq, Eq)]
+#[derive(Clone, Copy, Debug, PartialEq, Eq)]
 pub enum Sign {
     Dot,
     Comma,
@@ -22,7 +24,7 @@ pub enum Sign {
 }
 
 /// A part of a text, with the place of its first byte.
-#[derive(Clone, Copy)]
+#[derive(Clone, Copy, Debug, PartialEq, Eq)]
 pub enum Part<'a> {
     /// The longest run of lower-case letters and digits.
     Name { at: usize, run: &'a [u8] },
@@ -35,32 +37,38 @@ pub enum Part<'a> {
     End { at: usize },
 }
 
-/// The sign that a byte is, if it is one.
-pub fn sign_of(b: u8) -> Option<Sign>
-    ensures { Signs b result }
-{
-    match b {
-        b'.' => Some(Sign::Dot),
-        b',' => Some(Sign::Comma),
-        b'(' => Some(Sign::Open),
-        b')' => Some(Sign::Close),
-        b'!' => Some(Sign::Lock),
-        b'+' => Some(Sign::Choice),
-        b'|' => Some(Sign::Interleave),
-        b'_' => Some(Sign::Blank),
-        b':' => Some(Sign::Colon),
-        b'@' => Some(Sign::At),
-        b'-' => Some(Sign::Minus),
-        _ => None,
+/// A byte that is no sign.
+#[derive(Clone, Copy, Debug, PartialEq, Eq)]
+pub struct NoSign;
+
+impl TryFrom<u8> for Sign {
+    type Error = NoSign;
+
+    ghost try_from_gives = { λ b r. Signs b (result_ok r) };
+
+    fn try_from(byte: u8) -> Result<Sign, NoSign> {
+        match byte {
+            b'.' => Ok(Sign::Dot),
+            b',' => Ok(Sign::Comma),
+            b'(' => Ok(Sign::Open),
+            b')' => Ok(Sign::Close),
+            b'!' => Ok(Sign::Lock),
+            b'+' => Ok(Sign::Choice),
+            b'|' => Ok(Sign::Interleave),
+            b'_' => Ok(Sign::Blank),
+            b':' => Ok(Sign::Colon),
+            b'@' => Ok(Sign::At),
+            b'-' => Ok(Sign::Minus),
+            _ => Err(NoSign),
+        }
     }
 }
 
-impl Sign {
-    /// The byte of the sign.
-    pub fn byte(self) -> u8
-        ensures { result ≡ sign_byte self }
-    {
-        match self {
+impl From<Sign> for u8 {
+    ghost from_gives = { λ s b. b ≡ sign_byte s };
+
+    fn from(sign: Sign) -> u8 {
+        match sign {
             Sign::Dot => b'.',
             Sign::Comma => b',',
             Sign::Open => b'(',
@@ -82,25 +90,20 @@ impl Part<'_> {
         ensures { result ≡ length (part_bytes self.now) }
     {
         match self {
-            Part::Name { at: _, run } => run.len(),
-            Part::Digits { at: _, run } => run.len(),
-            Part::Mark { at: _, sign: _ } => 1,
-            Part::Other { at: _, byte: _ } => 1,
-            Part::End { at: _ } => 0,
+            Part::Name { run, .. } | Part::Digits { run, .. } => run.len(),
+            Part::Mark { .. } | Part::Other { .. } => 1,
+            Part::End { .. } => 0,
         }
     }
 }
 
+// kept: a text and a place are what `part_at` is called with; a struct of the two would be taken apart again in each of these
 // Where the longest run of name bytes ends.
 fn name_end(text: &[u8], at: usize) -> usize
     requires { at ≤ length text.now }
     ensures { Longest name_byte text.now at result }
 {
-    let mut end = at;
-    while end < text.len() && is_name_byte(text[end]) {
-        end += 1;
-    }
-    end
+    run_end(text, at, is_name_byte)
 }
 
 // Where the longest run of digits ends.
@@ -108,11 +111,7 @@ fn digits_end(text: &[u8], at: usize) -> usize
     requires { at ≤ length text.now }
     ensures { Longest digit text.now at result }
 {
-    let mut end = at;
-    while end < text.len() && is_digit(text[end]) {
-        end += 1;
-    }
-    end
+    run_end(text, at, is_digit)
 }
 
 // Whether digits at a place are a number: the byte before it is `:`, `@` or `-`.
@@ -120,11 +119,7 @@ fn behind_mark(text: &[u8], at: usize) -> bool
     requires { at ≤ length text.now }
     ensures { result ≡ number_may_begin text.now at }
 {
-    if at == 0 {
-        return false;
-    }
-    let b = text[at - 1];
-    b == b':' || b == b'@' || b == b'-'
+    matches!(text[..at].last(), Some(b':' | b'@' | b'-'))
 }
 
 /// The part of a text that stands at a place.
@@ -149,9 +144,9 @@ pub fn part_at(text: &[u8], at: usize) -> Part<'_>
             run: &text[at..end],
         };
     }
-    match sign_of(byte) {
-        Some(sign) => Part::Mark { at, sign },
-        None => Part::Other { at, byte },
+    match Sign::try_from(byte) {
+        Ok(sign) => Part::Mark { at, sign },
+        Err(NoSign) => Part::Other { at, byte },
     }
 }
 
@@ -161,6 +156,7 @@ pub fn parts<'a>(heap: Global, text: &'a [u8]) -> Result<Vec<Part<'a>>, AllocErr
 {
     let mut list = Vec::new(heap);
     let mut at = 0;
+    // kept: only `parts` goes over parts, and an iterator for it alone is longer than this loop
     while at < text.len() {
         let part = part_at(text, at);
         at += part.size();

@@ -2,10 +2,6 @@ use Rattle.std.proofs.Common.{◌+◌, ◌*◌, sym, ap, ◌∙◌, arith}
 use Rattle.text.specs.Numbers.{no_digit, too_much, too_little, read_more, read_all}
 use Rattle.text.proofs.decimal.number.Goals as goal
 
-pub returns-then-not-is_digit : goal.returns-then-not-is_digit
-returns-then-not-is_digit c =
-    no_digit c.args.run.now c.args.least c.args.most c.loop-b.b-index c.loop-b-test.true (sym c.is_digit.ensures ∙ c.if-not-is_digit.true)
-
 pub returns-then-n-limit : goal.returns-then-n-limit
 returns-then-n-limit c =
     too_much c.args.run.now c.args.least c.args.most c.loop-b.n _ c.loop-b.b-index c.loop-b-test.true
@@ -15,13 +11,3 @@ pub loop-b-preserved : goal.loop-b-preserved
 loop-b-preserved c =
     read_more c.args.run.now c.args.most c.loop-b.n _ c.loop-b.b-index c.loop-b-test.true
     (sym c.is_digit.ensures ∙ c.if-not-is_digit.false) (ap (λ d. 10 * c.loop-b.n + d) c.from.ensures) (omega (arith, c.if-n-limit.false)) c.loop-b.invariant
-
-pub returns-then-n-from : goal.returns-then-n-from
-returns-then-n-from c =
-    too_little c.args.run.now c.args.least c.args.most c.loop-b.n c.loop-b.b-index c.loop-b-test.false
-    (omega (arith, c.if-n-from.true)) c.loop-b.invariant
-
-pub returns-else-n-from : goal.returns-else-n-from
-returns-else-n-from c =
-    read_all c.args.run.now c.args.least c.args.most c.loop-b.n c.loop-b.b-index c.loop-b-test.false
-    (sym c.is_plain.ensures ∙ c.if-not-is_plain.false) (omega (arith, c.if-n-from.false)) c.loop-b.invariant
