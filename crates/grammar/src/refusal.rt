@@ -1,11 +1,11 @@
 ghost use Rattle.std.specs.Prelude.{◌≡◌};
 ghost use Rattle.grammar.specs.Refusals.{code};
-ghost use Rattle.grammar.specs.declared.refusal.PlanError.TheVariants.{Memory};
+ghost use Rattle.grammar.specs.declared.refusal.PlanError.TheVariants.{Memory, Refused};
 
 use std::alloc::{AllocError, AllocFailed};
 
 /// Why a call on plans is sent back. Places count bytes from 0.
-#[derive(Clone, Copy, PartialEq, Eq)]
+#[derive(Clone, Copy, Debug, PartialEq, Eq)]
 pub enum Refusal {
     /// A buffer is shorter than this length.
     Short(usize),
@@ -30,6 +30,7 @@ pub enum Refusal {
 }
 
 impl Refusal {
+    // kept: the numbers are those that are printed
     /// Its number, and the place, length, width or name number that goes with it.
     pub fn number_and_place(self) -> (u8, usize)
         ensures { result ≡ code self }
@@ -50,25 +51,33 @@ impl Refusal {
 }
 
 /// What reading a plan may end with instead of a plan.
-#[derive(Clone, Copy)]
+#[derive(Clone, Copy, Debug, PartialEq, Eq)]
 pub enum PlanError {
     Refused(Refusal),
     /// There is not enough memory; only where nothing is refused.
-    Memory,
+    Memory(AllocError),
+}
+
+impl From<Refusal> for PlanError {
+    ghost from_gives = { λ x y. y ≡ Refused x };
+
+    fn from(refusal: Refusal) -> PlanError {
+        PlanError::Refused(refusal)
+    }
 }
 
 impl From<AllocError> for PlanError {
-    ghost from_gives = { λ _ y. y ≡ Memory };
+    ghost from_gives = { λ x y. y ≡ Memory x };
 
-    fn from(_error: AllocError) -> PlanError {
-        PlanError::Memory
+    fn from(error: AllocError) -> PlanError {
+        PlanError::Memory(error)
     }
 }
 
 impl<T: Drop> From<AllocFailed<T>> for PlanError {
-    ghost from_gives = { λ _ y. y ≡ Memory };
+    ghost from_gives = { λ _ y. (e : _) × (y ≡ Memory e) };
 
-    fn from(_error: AllocFailed<T>) -> PlanError {
-        PlanError::Memory
+    fn from(error: AllocFailed<T>) -> PlanError {
+        PlanError::Memory(error.into())
     }
 }

@@ -10,3 +10,4 @@ pub mod LayingTree
 pub mod Moving
 pub mod MovingFew
 pub mod Outlining
+pub mod TreeShapes

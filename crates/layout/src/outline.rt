@@ -4,11 +4,11 @@ ghost use Rattle.layout.specs.Outlines.{outline_from, OutlinesAreWhole};
 ghost use Rattle.meaning.specs.Shape.{items, leaves as leaf_count};
 ghost use Rattle.layout.specs.Tree.{shape_of};
 
-use super::tree::{Sort, Tree};
+use crate::{Sort, Tree};
 use std::alloc::AllocError;
 
 /// An item of a plan: a leaf with its number, or a bracket.
-#[derive(Clone, Copy)]
+#[derive(Clone, Copy, Debug, PartialEq, Eq)]
 pub enum Item {
     Name(usize),
     Blank(usize),
@@ -16,13 +16,14 @@ pub enum Item {
 }
 
 /// An item, and how many brackets stand around it.
-#[derive(Clone, Copy)]
+#[derive(Clone, Copy, Debug, PartialEq, Eq)]
 pub struct Line {
     pub depth: usize,
     pub item: Item,
 }
 
 impl Tree {
+    // kept: a bracket counts in one and not in the other, which one function would have to be told
     // How many leaves there are.
     fn leaf_count(&self) -> usize
         requires { leaf_count (shape_of self.now) < 2 ^ 32 }
@@ -59,17 +60,16 @@ impl Tree {
             Tree::Bracket(sort, inner) => {
                 let item = Item::Bracket(*sort);
                 lines.push(Line { depth, item })?;
-                inner.list_items(depth + 1, leaf, lines)?;
-                Ok(())
+                inner.list_items(depth + 1, leaf, lines)
             }
             Tree::Join(_, first, second) => {
                 first.list_items(depth, leaf, lines)?;
-                second.list_items(depth, leaf + first.leaf_count(), lines)?;
-                Ok(())
+                second.list_items(depth, leaf + first.leaf_count(), lines)
             }
         }
     }
 
+    // kept: as at `leaf_count`
     /// How many items there are.
     pub fn item_count(&self) -> usize
         requires { items (shape_of self.now) < 2 ^ 32 }
@@ -84,8 +84,6 @@ impl Tree {
 }
 
 /// An outline has a line for each item.
-pub fn outlines_are_whole() -> bool
+pub fn outlines_are_whole()
     ensures { OutlinesAreWhole }
-{
-    true
-}
+{}

@@ -1,5 +1,5 @@
 /// The sorts of bracket: `!(..)`, `+(..)` and `|(..)`.
-#[derive(Clone, Copy, PartialEq, Eq)]
+#[derive(Clone, Copy, Debug, PartialEq, Eq)]
 pub enum Sort {
     Lock,
     Choice,
@@ -7,7 +7,7 @@ pub enum Sort {
 }
 
 /// What joins two neighbours: `.`, the `,` of a choice, or the `,` of an interleave.
-#[derive(Clone, Copy, PartialEq, Eq)]
+#[derive(Clone, Copy, Debug, PartialEq, Eq)]
 pub enum Link {
     Then,
     Or,
@@ -18,6 +18,7 @@ pub enum Link {
 /// links join, and what joins several is nested to the right.
 #[derive(Drop)]
 pub enum Tree {
+    // kept: the shape of a plan holds the same yes or no at a leaf, so an enum of two would only be turned into it.
     Leaf(bool),
     Bracket(Sort, Box<Tree>),
     Join(Link, Box<Tree>, Box<Tree>),
