@@ -1,16 +1,13 @@
 -- What the leaves of a plan keep to.
-use Rattle.std.proofs.Common.{◌≡◌, ℕ, zero, suc, ◌+◌, ◌*◌, ◌≤◌, Bool, true, false, leb, List, [], ◌∷◌, length, Some, None, vec_items, Option, refl, ap, ◌∙◌, ap₂, arith, length-append, leb-true}
+use Rattle.std.proofs.Common.{◌≡◌, ℕ, zero, suc, ◌+◌, ◌≤◌, Bool, true, false, leb, List, [], ◌∷◌, length, get_or, Some, None, vec_items, Option, refl, ap, ◌∙◌, ap₂, arith, length-append, leb-true}
 use Rattle.std.proofs.lemmas.Bool.{ltb-true, and_parts}
-use Rattle.meaning.specs.Counts.{free_cuts, locked_cuts, width}
 use Rattle.plan.specs.LeafFit.{leaf_kinds, name_fits, leaf_fits, all_fit}
-use Rattle.plan.specs.Reads.{counts_of}
-use Rattle.layout.specs.Sizes.{capped}
 use Rattle.meaning.specs.Shape.{Shape, leaf, bracket, join, leaves, items}
 use Rattle.layout.specs.Tree.{shape_of}
 use Rattle.plan.specs.Writes.{Numbered, AllNumbered}
+use Rattle.grammar.specs.Written.{no_leaf}
 use Rattle.grammar.specs.declared.leaf.Leaf.{Leaf}
 use Rattle.plan.specs.declared.plan.Plan.{Plan}
-use Rattle.plan.specs.declared.reading.Counts.{Counts}
 use Rattle.meaning.proofs.Limited.{items_are_counted}
 use Rattle.plan.proofs.PlanFacts.{plan_limited}
 
@@ -53,6 +50,14 @@ plan_numbered p =
     let h = and_parts (leb p.names 128) (all_fit p.names (leaf_kinds (shape_of p.tree)) (vec_items p.leaves)) p.fitting in
     fit_numbered p.names (leaf_kinds (shape_of p.tree)) (vec_items p.leaves) h.1
 
+-- so they are below any greater number
+pub numbered_below : (m n : ℕ) (ls : List Leaf) → m ≤ n → AllNumbered m ls → AllNumbered n ls
+numbered_below m n ls l h k i = go (get_or ls k no_leaf).name (h k i)
+  where
+    go : (o : Option ℕ) → Numbered m o → Numbered n o
+    go None b = tt
+    go (Some j) b = omega (arith, b)
+
 pub plan_names : (p : Plan) → p.names ≤ 128
 plan_names p =
     let h = and_parts (leb p.names 128) (all_fit p.names (leaf_kinds (shape_of p.tree)) (vec_items p.leaves)) p.fitting in
@@ -62,13 +67,3 @@ pub plan_items : (p : Plan) → items (shape_of p.tree) ≤ 192
 plan_items p =
     let w = plan_limited p in
     omega (arith, items_are_counted (shape_of p.tree), w.leaf_number, w.bracket_number)
-
--- and what is told of it is exact
-pub plan_told : (p : Plan) (n w k : ℕ) → n ≡ items (shape_of p.tree) → w ≡ capped (width (shape_of p.tree))
-    → k ≡ capped (free_cuts (shape_of p.tree) + locked_cuts (shape_of p.tree))
-    → ◌≡◌ {A = Counts} (record { items = n; vertices = 2 * n; width = w; cuts = k }) (counts_of (shape_of p.tree))
-plan_told p n w k a b d =
-    let l = plan_limited p in
-    let e : w ≡ width (shape_of p.tree) = omega (arith, b, l.wide) in
-    let f : k ≡ free_cuts (shape_of p.tree) + locked_cuts (shape_of p.tree) = omega (arith, d, l.cut_number) in
-    cc

@@ -1,7 +1,7 @@
 -- A whole text read, with its names numbered.
-use Rattle.std.proofs.Common.{◌≡◌, ℕ, zero, suc, ◌+◌, ◌<◌, ◌≤◌, Bool, true, leb, List, [], ◌∷◌, ◌++◌, map, length, get_or, take, drop, Some, None, vec_items, Option, sym, refl, ap, ◌∙◌, subst, ap₂, inl, inr, arith, drop-drop}
+use Rattle.std.proofs.Common.{◌≡◌, ℕ, zero, suc, ◌+◌, ◌<◌, ◌≤◌, Bool, true, false, eqb, leb, List, [], ◌∷◌, ◌++◌, map, length, get_or, take, drop, Some, None, vec_items, Option, sym, refl, ap, ◌∙◌, subst, ap₂, inl, inr, arith, drop-drop}
 use Rattle.std.proofs.lemmas.List.{length-map, length-take, take_all}
-use Rattle.std.proofs.lemmas.Bool.{cases_Bool, lt-ltb, and_from, le-leb}
+use Rattle.std.proofs.lemmas.Bool.{cases_Bool, eqb-false, lt-ltb, and_from, le-leb}
 use Rattle.text.specs.Bytes.{between, name_byte}
 use Rattle.text.specs.Directory.{Text, directory}
 use Rattle.meaning.specs.Shape.{Shape, leaf, bracket, join, leaves}
@@ -27,6 +27,10 @@ use Rattle.reader.proofs.ReadingMarks.{longest_front}
 use Rattle.reader.proofs.ReadingTrees.{kinds_length}
 use Rattle.reader.proofs.ReadingJudged.{read_spells, leaves_read}
 
+-- of the length of a text and of a names buffer, from what is tested
+pub sized : (n : ℕ) (t : List ℕ) → 128 ≤ n → eqb (length t) 0 ≡ false → length t ≤ 2048 → SizedWell n t
+sized n t room some short = record { room = room; some = omega (arith, eqb-false (length t) 0 some); short = short }
+
 -- what is granted is within the limits
 -- what the machine takes, the grammar takes
 unrefused : (has : List ℕ → Bool) (t : List ℕ) → Nothing has t → Unrefused has t
@@ -49,6 +53,10 @@ granted_accepts {has} {t} {ds} n e g s q =
             cut_number = g.cuts;
           });
     })
+
+-- what is known of a text where memory is wanting
+pub no_memory : {has : List ℕ → Bool} {t : List ℕ} {ds : List Draft} {b : Branch} (n : ℕ) → SizedWell n t → Granted has t ds b → (e : Shape) × (fs : List Draft) × Accepts has n t e fs
+no_memory {ds = ds} n s g = (g.whole.drawn.shape, ds, granted_accepts n g.whole.drawn.shape g s refl)
 
 -- every name that was read is one of the kind
 named_of : (has : List ℕ → Bool) (t : List ℕ) → ((f : Refusal) → Refuses has t f → ⊥) → (p : ℕ) (o : Option ℕ) → NamedAt t p o → HasName has t p o

@@ -1,7 +1,7 @@
 -- Texts laid into a buffer, one behind another.
 use Rattle.std.proofs.Common.{◌≡◌, ℕ, ◌+◌, ◌-◌, ◌<◌, ◌≤◌, List, [], ◌∷◌, ◌++◌, length, take, drop, set, Some, Option, sym, refl, ap, ◌∙◌, subst, append_assoc, append-nil, add-one, arith}
 use borrow.Rule.Slice.PartMut.{put_mid}
-use Rattle.std.proofs.lemmas.List.{length-append, length-take-le, set_split, take_rest, take_at, take-append-drop, drop_all, drop_at, drop-drop}
+use Rattle.std.proofs.lemmas.List.{length-append, length-take-le, length-drop, set_split, take_rest, take_at, drop_all, drop_at, drop-drop}
 use Rattle.text.specs.Bytes.{Writes}
 use Rattle.plan.specs.Writes.{Laid}
 
@@ -24,6 +24,32 @@ laid_part at n t xs ys o h w e = record { ends = ap (λ k. at + k) v.0; holds = 
 
     joined : ys ++ drop (length xs - at) (drop at xs) ≡ t ++ drop (at + n) xs
     joined = ap (λ z. ys ++ z) none ∙ (append-nil ys ∙ (v.1 ∙ ap (λ z. t ++ z) behind))
+
+-- a text at the front
+pub laid_front : (n : ℕ) (t xs ys : List ℕ) → Laid 0 t xs ys n → (n ≡ length t) × (ys ≡ t ++ drop n xs)
+laid_front n t [] ys a = (omega (arith, a.ends), a.holds)
+laid_front n t (x ∷ xs) ys a = (omega (arith, a.ends), a.holds)
+
+-- a text that is laid at the front of that part
+pub laid_sub : (at n : ℕ) (t xs ys : List ℕ) → at ≤ length xs → Laid 0 t (take (length xs - at) (drop at xs)) ys n → Laid at t xs (put_mid at (length xs - at) xs ys) (at + n)
+laid_sub at n t xs ys h a = laid_part at n t xs ys (Some n) h (laid_front n t (take (length xs - at) (drop at xs)) ys a) refl
+
+-- how long that part is
+pub part_length : (at : ℕ) (xs : List ℕ) → length (take (length xs - at) (drop at xs)) ≡ length xs - at
+part_length at xs = ap length (take_rest xs at) ∙ length-drop at xs
+
+-- a buffer keeps its length
+pub laid_length : {at n : ℕ} {t xs ys : List ℕ} → n ≤ length xs → Laid at t xs ys n → length ys ≡ length xs
+laid_length {at} {n} {t} {xs} {ys} h a =
+    omega (
+      arith,
+      ap length a.holds,
+      length-append (take at xs) (t ++ drop n xs),
+      length-append t (drop n xs),
+      length-take-le at xs (omega (arith, a.ends)),
+      length-drop n xs,
+      a.ends,
+    )
 
 -- one text behind another
 pub laid_both : (at n m : ℕ) (t u xs ys zs : List ℕ) → at ≤ length xs → Laid at t xs ys n → Laid n u ys zs m → Laid at (t ++ u) xs zs m
@@ -50,19 +76,6 @@ laid_both at n m t u xs ys zs h a b = record {
     regroup : (take at xs ++ t) ++ (u ++ drop m xs) ≡ take at xs ++ ((t ++ u) ++ drop m xs)
     regroup = append_assoc (take at xs) t (u ++ drop m xs) ∙ ap (λ z. take at xs ++ z) (sym (append_assoc t u (drop m xs)))
 
--- no text
-pub laid_none : (at : ℕ) (xs : List ℕ) → at ≤ length xs → Laid at [] xs xs at
-laid_none at xs h = record { ends = omega arith; holds = sym (take-append-drop at xs) }
-
 -- the same text in another form
 pub laid_as : {at n : ℕ} {xs ys : List ℕ} (t u : List ℕ) → Laid at t xs ys n → t ≡ u → Laid at u xs ys n
 laid_as {at} {n} {xs} {ys} t u a e = subst (λ v. Laid at v xs ys n) e a
-
--- the same under other names for what the buffer holds and the end
-pub laid_on : {at n m : ℕ} {t xs ys zs : List ℕ} → zs ≡ ys → m ≡ n → Laid at t xs ys n → Laid at t xs zs m
-laid_on {at} {n} {m} {t} {xs} {ys} {zs} p q a = subst (λ z. Laid at t xs z m) (sym p) (subst (λ k. Laid at t xs ys k) (sym q) a)
-
--- a text at the front
-pub laid_front : (n : ℕ) (t xs ys : List ℕ) → Laid 0 t xs ys n → (n ≡ length t) × (ys ≡ t ++ drop n xs)
-laid_front n t [] ys a = (omega (arith, a.ends), a.holds)
-laid_front n t (x ∷ xs) ys a = (omega (arith, a.ends), a.holds)

@@ -1,29 +1,9 @@
 -- The texts of marks and leaves: their forms and their lengths.
-use Rattle.std.proofs.Common.{◌≡◌, ℕ, zero, suc, ◌+◌, ◌<◌, ◌≤◌, true, false, List, [], ◌∷◌, ◌++◌, map, length, get_or, ℤ, pos, negsuc, nat_abs, Some, None, decimal, Option, refl, ap, ◌∙◌, arith, w16, SFits, of_z}
-use lib.Signed.{lt_z}
-use Rattle.std.proofs.lemmas.Bool.Decides.{nat_tests}
+use Rattle.std.proofs.Common.{◌≡◌, ℕ, zero, suc, ◌+◌, ◌<◌, ◌≤◌, List, [], ◌∷◌, map, length, get_or, ℤ, pos, negsuc, Some, None, Option, refl, arith, w16, SFits}
 use Rattle.std.proofs.lemmas.List.{length-append}
 use Rattle.std.proofs.lemmas.Fmt.{length-decimal-le}
-use Rattle.text.proofs.Entries.{text_at}
 use Rattle.grammar.specs.Written.{correction_text, bay_text, marks_text, name_text, leaf_text}
 use Rattle.grammar.specs.declared.leaf.Leaf.{Leaf}
-
--- a correction of 0
-pub no_correction : (z : ℤ) → SFits w16 z → of_z w16 z ≡ 0 → correction_text z ≡ []
-no_correction (pos zero) f e = refl
-no_correction (pos (suc n)) f e = absurd (omega arith)
-no_correction (negsuc n) f e = absurd (omega (arith, f.sfits))
-
--- one below 0
-pub correction_below : (z : ℤ) → lt_z z (pos 0) ≡ true → correction_text z ≡ 58 ∷ 45 ∷ decimal (nat_abs z)
-correction_below (pos n) e = absurd (grind (arith, nat_tests))
-correction_below (negsuc n) e = refl
-
--- one above 0
-pub correction_above : (z : ℤ) → (of_z w16 z ≡ 0 → ⊥) → lt_z z (pos 0) ≡ false → correction_text z ≡ 58 ∷ decimal (nat_abs z)
-correction_above (pos zero) ne e = absurd (ne refl)
-correction_above (pos (suc n)) ne e = refl
-correction_above (negsuc n) ne e = absurd (let z : ◌≡◌ {A = ℕ} 0 1 = cc in omega arith)
 
 pub correction_short : (z : ℤ) → SFits w16 z → length (correction_text z) ≤ 7
 correction_short (pos zero) f = omega arith
@@ -32,16 +12,6 @@ correction_short (negsuc n) f = omega (arith, f.sfits, length-decimal-le 5 (suc 
 
 pub bay_short : (b : ℕ) → b < 256 → length (bay_text (Some b)) ≤ 4
 bay_short b h = omega (arith, length-decimal-le 3 b (omega arith) (omega arith) (omega arith))
-
--- the text of a leaf with a name
-pub named_text : {K : Type 0} (text : K → List ℕ) (names : List K) (l : Leaf) (n : ℕ) (x : K) → l.name ≡ Some n → n < length names → x ≡ get_or names n x
-    → leaf_text (map text names) l ≡ text x ++ marks_text l.marks
-named_text text names l n x e h is =
-    ap (λ o. name_text (map text names) o (marks_text l.marks)) e ∙ ap (λ t. t ++ marks_text l.marks) (text_at text names n x h is)
-
-pub named_length : {K : Type 0} (text : K → List ℕ) (names : List K) (l : Leaf) (n : ℕ) (x : K) → l.name ≡ Some n → n < length names → x ≡ get_or names n x
-    → length (leaf_text (map text names) l) ≡ length (text x) + length (marks_text l.marks)
-named_length text names l n x e h is = ap length (named_text text names l n x e h is) ∙ length-append (text x) (marks_text l.marks)
 
 -- how long the texts can be
 pub texts_short : {K : Type 0} (text : K → List ℕ) (names : List K) (most : ℕ) → ((x : K) → length (text x) ≤ most) → (n : ℕ) → length (get_or (map text names) n []) ≤ most

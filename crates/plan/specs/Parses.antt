@@ -75,4 +75,4 @@ pub record ReadsPlan {K : Type 0} (text : K → List ℕ) (has : List ℕ → Bo
 abbrev pub ParseAnswer : {K : Type 0} → (K → List ℕ) → (List ℕ → Bool) → List ℕ → List K → List K → Result Plan PlanError → Type 0
 ParseAnswer text has t before after (Ok p) = ReadsPlan text has t before after p
 ParseAnswer text has t before after (Err (Refused f)) = RefusedFor has (length before) t f × (after ≡ before)
-ParseAnswer text has t before after (Err Memory) = ((e : Shape) × (ds : List Draft) × Accepts has (length before) t e ds) × (after ≡ before)
+ParseAnswer text has t before after (Err (Memory x)) = ((e : Shape) × (ds : List Draft) × Accepts has (length before) t e ds) × (after ≡ before)

@@ -10,7 +10,7 @@ use std::alloc::Global;
 use text::Kind;
 
 /// What is told of a plan.
-#[derive(Clone, Copy)]
+#[derive(Clone, Copy, Debug, PartialEq, Eq)]
 pub struct Counts {
     pub items: usize,
     /// Two for each item.
@@ -44,14 +44,10 @@ pub fn read<K: Kind>(
     plan: &mut Plan,
     names: &mut [K],
 ) -> Result<Counts, PlanError>
-    ensures { ReadAnswer K.Kind.text K.has text.now names.old names.new plan.old plan.new result }
+    ensures { ReadAnswer K.text K.has text.now names.old names.new plan.old plan.new result }
 {
-    match parse(heap, text, names) {
-        Ok(new) => {
-            let counts = new.counts();
-            *plan = new;
-            Ok(counts)
-        }
-        Err(error) => Err(error),
-    }
+    let new = parse(heap, text, names)?;
+    let counts = new.counts();
+    *plan = new;
+    Ok(counts)
 }

@@ -5,43 +5,31 @@ ghost use Rattle.plan.specs.WrittenLaws.{LeavesDecide, NamesDecide, LengthsAreBo
 use text::Kind;
 
 /// Two plans of one shape whose leaves have the same texts have the same text.
-pub fn texts_of_leaves_decide() -> u8
+pub fn texts_of_leaves_decide()
     ensures { LeavesDecide }
-{
-    0
-}
+{}
 
 /// Of the texts of names, only those of the names that the leaves use count.
-pub fn texts_of_names_decide() -> u8
+pub fn texts_of_names_decide()
     ensures { NamesDecide }
-{
-    0
-}
+{}
 
 /// The text of a plan within the limits has at most 3,135 bytes, whatever its names.
-pub fn lengths_are_bounded() -> u8
+pub fn lengths_are_bounded()
     ensures { LengthsAreBounded }
-{
-    0
-}
+{}
 
 /// A text has one reading: well-formed plans with the same text have the same shape, and their leaves the same texts.
-pub fn texts_have_one_reading() -> u8
+pub fn texts_have_one_reading()
     ensures { OneReading }
-{
-    0
-}
+{}
 
 /// The text of a leaf has one reading: leaves with names and the same text have names of the same text, and the same marks.
-pub fn leaves_have_one_reading() -> u8
+pub fn leaves_have_one_reading()
     ensures { OneLeafReading }
-{
-    0
-}
+{}
 
 /// What `read` reads is written back: under the names that were read with it, `write` gives the text that was read.
-pub fn texts_are_written_back<K: Kind>() -> u8
-    ensures { WrittenBack K.Kind.text K.has }
-{
-    0
-}
+pub fn texts_are_written_back<K: Kind>()
+    ensures { WrittenBack K.text K.has }
+{}

@@ -1,4 +1,4 @@
-pub mod MarkRanges
+pub mod Handing
 pub mod ReadingEnds
 pub mod ReadingEntered
 pub mod ReadingFirst

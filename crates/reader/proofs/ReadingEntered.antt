@@ -6,7 +6,6 @@ use Rattle.text.specs.Directory.{Text, added, added_all, directory, Adds}
 use Rattle.text.specs.declared.directory.Entry.{Entry}
 use Rattle.text.specs.declared.directory.Entry.TheVariants.{Known, New}
 use Rattle.text.proofs.Entries.{added_known, added_new, grown_all}
-use Rattle.reader.specs.Drafts.{named_to, text_to}
 use Rattle.reader.specs.Entering.{with_run, name_runs, added_run, HasName, AllNamed, Below, Match, Matches, Numbered, Enters, Entered}
 use Rattle.grammar.specs.Written.{marks_text, name_text}
 use Rattle.reader.specs.declared.draft.Draft.{Draft}
@@ -25,11 +24,6 @@ module _ {K : Type 0} (text : K → Text) (before after : List K) (count : ℕ) 
         most = omega arith;
       })
 
-  pub known_low : (i : ℕ) → entry ≡ Known i → Adds text before after count x (Some entry) → i < count
-  known_low i e a =
-      let b : Adds text before after count x (Some (Known i)) = subst (λ y. Adds text before after count x (Some y)) e a in
-      omega (arith, b.0.0, length-map (take count before) text, length-take-le count before (omega arith))
-
   pub new_numbered : (n : ℕ) → entry ≡ New n → Adds text before after count x (Some entry) → Numbered text before after count (text x) n (n + 1)
   new_numbered n e a =
       let b : Adds text before after count x (Some (New n)) = subst (λ y. Adds text before after count x (Some y)) e a in
@@ -44,24 +38,6 @@ module _ {K : Type 0} (text : K → Text) (before after : List K) (count : ℕ) 
         least = omega arith;
         most = omega arith;
       }))
-
-  pub new_low : (n : ℕ) → entry ≡ New n → Adds text before after count x (Some entry) → n ≡ count
-  new_low n e a = (subst (λ y. Adds text before after count x (Some y)) e a).1
-
--- a leaf with a name is taken up
-pub named_enters : {K : Type 0} (text : K → Text) (t : List ℕ) (d : Draft) (before after : List K) (count q k n : ℕ) (x : Text) → d.end ≡ Some q → x ≡ between t d.at q
-    → Numbered text before after count x k n → Enters text t d before after count (record { name = Some k; marks = d.marks }) n
-named_enters text t d before after count q k n x e f h = record {
-  texts = h.texts ∙ (ap (added (map text (take count before))) f ∙ ap (λ z. added_run (map text (take count before)) t d.at z) (sym e));
-  match = record {
-    text = ap (λ z. z ++ marks_text d.marks) (h.found ∙ f) ∙ ap (λ z. text_to t d.at z (marks_text d.marks)) (sym e);
-    kind = ap named_to (sym e);
-    below = h.low;
-  };
-  behind = h.behind;
-  least = h.least;
-  most = h.most;
-}
 
 with_append : (t : List ℕ) (p : ℕ) (e : Option ℕ) (a b : List Text) → with_run t p e (a ++ b) ≡ with_run t p e a ++ b
 with_append t p None a b = refl
@@ -110,9 +86,6 @@ matches_push us t [] [] d l h m = (m, tt)
 matches_push us t [] (k ∷ ls) d l h m = absurd h
 matches_push us t (c ∷ ds) [] d l h m = absurd h
 matches_push us t (c ∷ ds) (k ∷ ls) d l h m = (h.0, matches_push us t ds ls d l h.1 m)
-
-pub entered_none : {K : Type 0} (text : K → Text) (t : List ℕ) (ds : List Draft) (names : List K) (ls : List Leaf) → Entered text t ds names names ls 0 0
-entered_none text t ds names ls = record { texts = refl; done = tt; behind = refl; fits = omega arith }
 
 -- one leaf more
 pub entered_more : {K : Type 0} (text : K → Text) (t : List ℕ) (ds : List Draft) (before names after : List K) (ls ms : List Leaf) (n m i : ℕ) (d : Draft) (l : Leaf)

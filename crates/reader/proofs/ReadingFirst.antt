@@ -83,21 +83,6 @@ begins_form t p fs b alive h = alive (subst (λ s. step s (get_or t p 0) ≡ dea
 pub begins_value : {kind : ℕ → Bool} (t : List ℕ) (p : ℕ) (fs : List Frame) → BeginsAt kind t p fs → Refuses any t (Mark p) → ⊥
 begins_value t p fs b h = never (ap marking (same_mode b.due h.2) ∙ wrong_mode (drop p t) h.1 h.3)
 
-pub first_deep : (t : List ℕ) (p : ℕ) (fs : List Frame) → Clean t p → BeginsAt sign_byte t p fs → 16 ≤ length fs → First any t (Depth p)
-first_deep t p fs c b l = first t (Depth p) c (fs, b, l) go
-  where
-    go : (g : Refusal) → Refuses any t g → place g ≡ p → 5 ≤ number g
-    go (Form q) h e = absurd (begins_form t p fs b (sign_alive fs (get_or t p 0) b.first) (subst (λ x. Refuses any t (Form x)) e h))
-    go (Mark q) h e = absurd (begins_value t p fs b (subst (λ x. Refuses any t (Mark x)) e h))
-    go (Depth q) h e = omega arith
-    go (Many q) h e = omega arith
-    go (Short n) h e = absurd h
-    go Length h e = absurd h
-    go (NoName q) h e = absurd (never (sym h.2))
-    go (Width w) h e = absurd h
-    go Cuts h e = absurd h
-    go (Twice n) h e = absurd h
-
 pub first_brackets : (t : List ℕ) (p : ℕ) (fs : List Frame) → Clean t p → BeginsAt sign_byte t p fs → length fs < 16 → 64 ≤ count sign_byte t p → First any t (Many p)
 first_brackets t p fs c b s l = first t (Many p) c (fs, inr (b, l)) go
   where

@@ -1,5 +1,6 @@
 -- What is known once a leaf has been read.
 use Rattle.std.proofs.Common.{◌≡◌, ℕ, ◌+◌, ◌<◌, ◌≤◌, Bool, true, false, ◌||◌, eqb, List, ◌∷◌, ◌++◌, length, Some, None, sym, refl, ap, ◌∙◌, subst, arith}
+use Rattle.std.proofs.lemmas.Bool.{eqb-true, eqb-false}
 use Rattle.text.specs.Bytes.{name_byte, between, Longest}
 use Rattle.meaning.specs.Shape.{leaf}
 use Rattle.meaning.specs.Limits.{item}
@@ -7,7 +8,7 @@ use Rattle.grammar.specs.Written.{marks_text}
 use Rattle.grammar.specs.Machine.{Frame, fresh, naming}
 use Rattle.grammar.specs.Faults.{sign_byte, First}
 use Rattle.reader.specs.Branches.{Means}
-use Rattle.reader.specs.Reading.{Spot, spot_at, spot, drafts_of, next, any, Here, Whole, Drawn, Noted, Steady}
+use Rattle.reader.specs.Reading.{Spot, spot_at, spot, drafts_of, next, any, Here, Whole, Drawn, Noted}
 use Rattle.reader.specs.declared.branch.Branch.{Branch}
 use Rattle.reader.specs.declared.draft.Draft.{Draft}
 use Rattle.grammar.specs.declared.leaf.Marks.{Marks}
@@ -33,23 +34,23 @@ no_item {r} {fs} h n b s =
     stops_here h (λ _. rw (n, b, p, q, o)) (λ _. unfinished fs fresh refl)
 
 -- the place after a leaf was noted
-pub noted_spot : {d : Draft} {r s : Reader} → Noted d r s → (q : ℕ) → spot_at s.text.now q s.leaves s.brackets ≡ spot_at r.text.now q (r.leaves + 1) r.brackets
+pub noted_spot : {d : Draft} {r s : Reader} → Noted d r s → (q : ℕ) → spot_at s.text.now q (length s.drafts.items) s.brackets ≡ spot_at r.text.now q (length r.drafts.items + 1) r.brackets
 noted_spot {d} {r} {s} n q =
-    ap (λ x. spot_at x.now q s.leaves s.brackets) n.text
-    ∙ (ap (λ x. spot_at r.text.now q x s.brackets) n.leaves ∙ ap (λ x. spot_at r.text.now q (r.leaves + 1) x) n.brackets)
+    ap (λ x. spot_at x.now q (length s.drafts.items) s.brackets) n.text
+    ∙ (ap (λ x. spot_at r.text.now q x s.brackets) n.leaves ∙ ap (λ x. spot_at r.text.now q (length r.drafts.items + 1) x) n.brackets)
 
 abbrev pub LeafRead : ℕ → List Frame → Reader → Reader → ℕ → Branch → Type 0
 LeafRead room fs r s q b =
-    Whole (spot_at s.text.now q s.leaves s.brackets) fs
+    Whole (spot_at s.text.now q (length s.drafts.items) s.brackets) fs
     × Drawn item room r.text.now r.at r.brackets q s.brackets (drafts_of r) (drafts_of s) b
 
-back : {d : Draft} {r s : Reader} (room q : ℕ) (fs : List Frame) (b : Branch) → Noted d r s → Whole (spot_at r.text.now q (r.leaves + 1) r.brackets) fs
+back : {d : Draft} {r s : Reader} (room q : ℕ) (fs : List Frame) (b : Branch) → Noted d r s → Whole (spot_at r.text.now q (length r.drafts.items + 1) r.brackets) fs
     → Drawn item room r.text.now r.at r.brackets q r.brackets (drafts_of r) (drafts_of s) b → LeafRead room fs r s q b
 back {d} {r} {s} room q fs b n w e =
     subst (λ x. Whole x fs × Drawn item room r.text.now r.at r.brackets q x.brackets (drafts_of r) (drafts_of s) b) (sym (noted_spot n q)) (w, e)
 
 pub blank_read : {r s : Reader} (m : Marks) (room : ℕ) (fs : List Frame) (b : Branch) → Noted (record { at = r.at; end = None; marks = m }) r s → Here (spot r) fs fresh → next (spot r) ≡ 95
-    → r.leaves < 128 → Means (leaf false) b → LeafRead room fs r s (r.at + 1) b
+    → length r.drafts.items < 128 → Means (leaf false) b → LeafRead room fs r s (r.at + 1) b
 blank_read {r} {s} m room fs b n h e l i =
     let t = r.text.now in
     let p = r.at in
@@ -59,12 +60,19 @@ blank_read {r} {s} m room fs b n h e l i =
     (between_cons t p (p + 1) (omega arith) w ∙ (ap (λ x. x ∷ between t (p + 1) (p + 1)) e ∙ ap (λ x. 95 ∷ x) (between_none t (p + 1)))) tt i)
 
 -- a name whose bytes end at a place, before its marks
-pub named_here : (r : Reader) {fs : List Frame} (q : ℕ) → Here (spot r) fs fresh → r.leaves < 128 → Longest name_byte r.text.now r.at q → r.at < q
-    → Here (spot_at r.text.now q (r.leaves + 1) r.brackets) fs naming
+-- whether as many leaves were read as there may be
+pub all_noted : {n : ℕ} → true ≡ eqb n 128 → 128 ≤ n
+all_noted {n} e = omega (arith, eqb-true n 128 (sym e))
+
+pub room_left : {n : ℕ} → false ≡ eqb n 128 → n ≤ 128 → n < 128
+room_left {n} e l = omega (arith, eqb-false n 128 (sym e))
+
+pub named_here : (r : Reader) {fs : List Frame} (q : ℕ) → Here (spot r) fs fresh → length r.drafts.items < 128 → Longest name_byte r.text.now r.at q → r.at < q
+    → Here (spot_at r.text.now q (length r.drafts.items + 1) r.brackets) fs naming
 named_here r q h l g w = name_run q h (g.all r.at (omega arith) w) l g
 
 pub named_read : {r s : Reader} (m : Marks) (q u room : ℕ) (fs : List Frame) (b : Branch) → Noted (record { at = r.at; end = Some q; marks = m }) r s → Here (spot r) fs fresh
-    → Longest name_byte r.text.now r.at q → r.at < q → q ≤ u → Whole (spot_at r.text.now u (r.leaves + 1) r.brackets) fs → between r.text.now q u ≡ marks_text m
+    → Longest name_byte r.text.now r.at q → r.at < q → q ≤ u → Whole (spot_at r.text.now u (length r.drafts.items + 1) r.brackets) fs → between r.text.now q u ≡ marks_text m
     → Means (leaf true) b → LeafRead room fs r s u b
 named_read {r} {s} m q u room fs b n h g w v x y i =
     let t = r.text.now in
@@ -72,8 +80,3 @@ named_read {r} {s} m q u room fs b n h g w v x y i =
     back room u fs b n x
     (leaf_drawn t p u r.brackets room (drafts_of r) (drafts_of s) (record { at = p; end = Some q; marks = m }) b (omega arith) n.drafts
     (between_append t p q u (omega arith) v ∙ ap (λ z. between t p q ++ z) y) (fs, h.state, g, w) i)
-
--- the text stays where a leaf is noted
-pub noted_steady : {d : Draft} {r s : Reader} (q : ℕ) → Noted d r s → r.leaves < 128 → r.at ≤ q → q ≤ length r.text.now
-    → Steady r (record { text = s.text; at = q; drafts = s.drafts; leaves = s.leaves; brackets = s.brackets })
-noted_steady q n l a b = record { text = n.text; onward = a; within = b; few = omega (arith, n.leaves) }

@@ -223,19 +223,6 @@ pub minus_right : {r : Spot} {fs : List Frame} (to : ℕ) → Here r fs colon �
 minus_right {r} {fs} to h q g l s =
     after_shift r (r.at + 1) to (run_number (by_byte r) to (minus_opens h q (good_run r.text (r.at + 1) to 1 32768 g s)) g l negating_clash (λ x b. refl) (λ x. x) (λ b k. rw k) (shifting_stays fs)) g
 
--- no correction
-pub no_shift : {r : Spot} {fs : List Frame} → Here r fs naming → name_byte (next r) ≡ false → (next r ≡ 58 → ⊥) → Marked r fs
-no_shift {r} {fs} h n q = record {
-  mode = naming;
-  whole = refl;
-  here = h;
-  opens = refl;
-  settled = λ i e. let a = ne_eqb (next r) 58 q in let b = ne_eqb (next r) 64 e in rw (n, a, b);
-}
-
-pub no_house : {r : Spot} {fs : List Frame} → Marked r fs → (next r ≡ 64 → ⊥) → Whole r fs
-no_house m n = record { mode = m.mode; whole = m.whole; here = m.here; settled = λ i. m.settled i n }
-
 -- a name
 abbrev pub by_leaf : Spot → ℕ → Spot
 by_leaf r p = record { text = r.text; at = p; leaves = r.leaves + 1; brackets = r.brackets }
@@ -297,12 +284,3 @@ name_run {r} {fs} to h e l g =
 pub name_stops : (t : List ℕ) (p to : ℕ) → Longest name_byte t p to → name_byte (get_or t to 0) ≡ false
 name_stops t p to g =
     elim (cases_lt to (length t)) [ inl l ↦ g.stops l | inr l ↦ ap name_byte (get_or_past t to 0 l) ]
-
-pub name_some : (t : List ℕ) (p to : ℕ) → Longest name_byte t p to → p < length t → name_byte (get_or t p 0) ≡ true → p < to
-name_some t p to g w e = elim (cases_lt p to) [ inl x ↦ x | inr x ↦ absurd (never (sym (stuck x) ∙ e)) ]
-  where
-    stuck : to ≤ p → name_byte (get_or t p 0) ≡ false
-    stuck x =
-        let f = g.forward in
-        let q : to ≡ p = omega arith in
-        subst (λ n. name_byte (get_or t n 0) ≡ false) q (g.stops (omega arith))

@@ -1,5 +1,5 @@
 -- The first refusal of all: of those whatever the kind, and of names that the kind does not have.
-use Rattle.std.proofs.Common.{◌≡◌, ℕ, ◌+◌, ◌-◌, ◌<◌, ◌≤◌, min, Bool, true, false, not, ◌&&◌, eqb, ltb, leb, ◌⊎◌, List, [], ◌∷◌, length, get_or, take, drop, Some, None, sym, refl, ap, ◌∙◌, subst, inl, inr, arith, take-add}
+use Rattle.std.proofs.Common.{◌≡◌, ℕ, ◌+◌, ◌-◌, ◌<◌, ◌≤◌, min, Bool, true, false, not, ◌&&◌, eqb, ltb, leb, ◌⊎◌, List, [], ◌∷◌, length, get_or, take, drop, Option, Some, None, MatchOption, sym, refl, ap, ◌∙◌, subst, inl, inr, arith, take-add}
 use Rattle.std.proofs.lemmas.Bool.{cases_lt}
 use Rattle.std.proofs.lemmas.Bool.Decides.{nat_tests}
 use Rattle.std.proofs.lemmas.List.{take_all}
@@ -216,9 +216,6 @@ refuses_too has t (Width n) h = h
 refuses_too has t Cuts h = h
 refuses_too has t (Twice n) h = h
 
-abbrev Before : Refusal → Refusal → Type 0
-Before f g = (place f < place g) ⊎ ((place f ≡ place g) × (number f ≤ number g))
-
 -- the first name that is lacking is the first refusal
 pub merged_some : (has : List ℕ → Bool) (t : List ℕ) (f : Refusal) (limit p : ℕ) → First any t f → limit ≤ reach f → limit ≤ length t → Unnamed has t limit (Some p) → First has t (NoName p)
 merged_some has t f limit p (h, least-one) l w u =
@@ -274,6 +271,12 @@ merged_none has t f limit (h, least-one) l u = (refuses_too has t f h, go)
             | inr y ↦ behind_reach has t f q h x y
           ])
     ]
+
+-- the first refusal of all: the first name that is lacking, or else what is refused whatever the kind
+pub merged : (has : List ℕ → Bool) (t : List ℕ) (f r : Refusal) (limit : ℕ) (o : Option ℕ) → First any t f → limit ≡ min (reach f) (length t) → Unnamed has t limit o
+    → MatchOption o (r ≡ f) (λ p. r ≡ NoName p) → First has t r
+merged has t f r limit None h l u e = rw e (merged_none has t f limit h l u)
+merged has t f r limit (Some p) h l u e = rw e (merged_some has t f limit p h (omega (arith, l)) (omega (arith, l)) u)
 
 -- a text that is accepted
 accepted_live : (s : State) → accepts s ≡ true → (fs : List Frame) × (m : Mode) × (s ≡ live fs m)

@@ -9,10 +9,10 @@ use Rattle.grammar.specs.Form.{least, most}
 use Rattle.grammar.specs.Machine.{Mode, fresh, opening, naming, colon, negating, shifting, at, housing, ended, Frame, dead, live, ends, step, ending, accepts}
 use Rattle.grammar.specs.Faults.{before, leaf_byte, sign_byte, begun, BeginsAt, First}
 use Rattle.reader.specs.Reading.{Spot, next, any, Here, Whole, frame}
-use Rattle.grammar.specs.declared.refusal.Refusal.TheVariants.{Form, Depth, Many}
+use Rattle.grammar.specs.declared.refusal.Refusal.TheVariants.{Form, Many}
 use Rattle.reader.proofs.ReadingParts.{never, ne_eqb}
 use Rattle.reader.proofs.ReadingSteps.{Fine, onward, sign_step, dot_step}
-use Rattle.reader.proofs.ReadingFirst.{marking, wrong_mode, alive_clash, sign_alive, first_form, first_deep, first_brackets}
+use Rattle.reader.proofs.ReadingFirst.{marking, wrong_mode, alive_clash, sign_alive, first_form, first_brackets}
 
 -- a byte above 0 stands within the text
 pub stands_within : (r : Spot) → 0 < next r → r.at < length r.text
@@ -75,9 +75,6 @@ pub open_paren : {r : Spot} {fs : List Frame} {s : Sort} → Here r fs (opening 
 open_paren {r} {fs} {s} h e =
     let go : step (live fs (opening s)) (next r) ≡ live (record { sort = s; count = 1 } ∷ fs) fresh = ap (step (live fs (opening s))) e in
     onward h (fine_plain (stands_within r (omega arith)) h.state refl open_clash go) go refl refl (sym (add-zero _)) (sym (add-zero _))
-
-pub too_deep : {r : Spot} {fs : List Frame} (s : Sort) → Here r fs fresh → r.at < length r.text → next r ≡ sign_of s → 16 ≤ length fs → First any r.text (Depth r.at)
-too_deep {r} {fs} s h w e d = first_deep r.text r.at fs h.clean (sign_begins s h w e) d
 
 pub too_many : {r : Spot} {fs : List Frame} (s : Sort) → Here r fs fresh → r.at < length r.text → next r ≡ sign_of s → length fs < 16 → 64 ≤ r.brackets → First any r.text (Many r.at)
 too_many {r} {fs} s h w e d b = first_brackets r.text r.at fs h.clean (sign_begins s h w e) d (omega (arith, h.brackets))

@@ -3,14 +3,12 @@ use Rattle.std.proofs.Common.{◌≡◌, ℕ, ◌+◌, ◌-◌, ◌<◌, Bool, t
 use Rattle.std.proofs.lemmas.List.{get_or_past, length-take, length-drop}
 use Rattle.std.proofs.lemmas.Bool.{cases_Bool}
 use Rattle.text.specs.Bytes.{digit, name_byte, Longest}
-use Rattle.text.specs.Parts.{Run, Stands, number_may_begin, sign_byte}
+use Rattle.text.specs.Parts.{Run, Stands, sign_byte}
 use Rattle.text.specs.declared.part.Sign.{Sign}
 use Rattle.text.specs.declared.part.Sign.TheVariants.{Dot, Comma, Open, Close, Lock, Choice, Interleave, Blank, Colon, At, Minus}
 use Rattle.text.specs.declared.part.Part.{Part}
 use Rattle.text.specs.declared.part.Part.TheVariants.{Name, Digits, Mark, Other, End}
 use Rattle.grammar.specs.Faults as faults
-use Rattle.meaning.specs.Shape.{Sort, lock, choice, interleave}
-use Rattle.grammar.specs.Written.{sign_of}
 
 pub never : false ≡ true → ⊥
 never e = let z : ◌≡◌ {A = ℕ} 0 1 = cc in omega arith
@@ -75,14 +73,6 @@ no_bracket t p x h n =
     let c = no_sign_test t p x h n Interleave in
     rw (a, b, c)
 
--- where no name stands
-pub no_name_there : (t : List ℕ) (p : ℕ) (x : Part) → Stands t p x → ((q : ℕ) (run : _) → x ≡ Name q run → ⊥) → number_may_begin t p ≡ false → name_byte (get_or t p 0) ≡ false
-no_name_there t p (Name q run) h n e = absurd (n q run refl)
-no_name_there t p (Digits q run) h n e = absurd (never (sym e ∙ h.2))
-no_name_there t p (Mark q s) h n e = ap name_byte h.2 ∙ no_name s
-no_name_there t p (Other q b) h n e = ap name_byte h.2 ∙ h.3
-no_name_there t p (End q) h n e = ap name_byte (get_or_past t p 0 h.1)
-
 -- the run ends as many bytes on as it has
 pub run_end : (test : ℕ → Bool) (t : List ℕ) (p : ℕ) (w : List ℕ) (r : Run test t p w) → r.0 ≡ p + length w
 run_end test t p w r =
@@ -97,9 +87,3 @@ run_longest test t p w r =
 -- bytes that a test tells apart
 pub apart : {a b : ℕ} → eqb a b ≡ false → a ≡ b → ⊥
 apart {a} {b} e q = never (sym e ∙ eq-eqb a b q)
-
--- the sign of a bracket is above 0
-pub sign_above : (s : Sort) (b : ℕ) → b ≡ sign_of s → 0 < b
-sign_above lock b e = omega arith
-sign_above choice b e = omega arith
-sign_above interleave b e = omega arith

@@ -9,8 +9,7 @@ use Rattle.grammar.specs.Written.{sign_of, link_sign}
 use Rattle.grammar.specs.Form.{least, most}
 use Rattle.reader.specs.Branches.{Means}
 use Rattle.reader.specs.Drafts.{draft_text, is_named, NamedAt, Placed, kinds, spelled}
-use Rattle.reader.specs.declared.reader.Reader.{Reader}
-use Rattle.reader.specs.Reading.{Steady, Drawn, Enough, Inside, inner_link}
+use Rattle.reader.specs.Reading.{Drawn, Enough, Inside, inner_link}
 use Rattle.layout.specs.Tree.{sort_of, link_of}
 use Rattle.layout.specs.declared.tree.Sort as code
 use Rattle.layout.specs.declared.tree.Sort.TheVariants.{Lock, Choice, Interleave}
@@ -236,26 +235,3 @@ pub then_drawn : (room : ℕ) (t : List ℕ) (p q u i j k : ℕ) (ds es gs : Lis
     → Drawn sequence room t p i u k ds gs c
 then_drawn room t p q u i j k ds es gs a b c w x mean d e =
     join_drawn then item sequence sequence room t p q u i j k ds es gs a b c w x (λ _ _ y z. both _ _ y z) mean d e
-
-pub most_some : (s : Sort) → 1 ≤ most s
-most_some lock = omega arith
-most_some choice = omega arith
-most_some interleave = omega arith
-
--- one byte on
-pub steady_byte : {r s : Reader} → Steady r s → s.at < length s.text.now
-    → Steady r (record { text = s.text; at = s.at + 1; drafts = s.drafts; leaves = s.leaves; brackets = s.brackets })
-steady_byte {r} {s} h w = record {
-  text = h.text;
-  onward = omega (arith, h.onward);
-  within = omega (arith, ap (λ z. length z.now) h.text, w);
-  few = h.few;
-}
-
-pub steady_both : {r s u : Reader} → Steady r s → Steady s u → Steady r u
-steady_both h k = record {
-  text = k.text ∙ h.text;
-  onward = omega (arith, h.onward, k.onward);
-  within = omega (arith, ap (λ z. length z.now) h.text, k.within);
-  few = k.few;
-}

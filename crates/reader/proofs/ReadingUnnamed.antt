@@ -1,14 +1,12 @@
 -- The places where names begin.
-use Rattle.std.proofs.Common.{◌≡◌, ℕ, ◌-◌, ◌≤◌, Bool, true, false, not, ◌&&◌, ltb, List, get_or, drop, sym, refl, ap, ◌∙◌, arith}
+use Rattle.std.proofs.Common.{◌≡◌, ℕ, ◌-◌, ◌<◌, ◌≤◌, Bool, true, false, not, ◌&&◌, ltb, List, get_or, drop, Option, Some, None, MatchOption, sym, refl, ap, ◌∙◌, arith}
 use Rattle.std.proofs.lemmas.Bool.Decides.{nat_tests}
-use Rattle.std.proofs.lemmas.List.{get_or_past}
+use Rattle.std.specs.Option.{is_some}
 use Rattle.text.specs.Bytes.{digit, name_byte}
-use Rattle.text.specs.Parts.{Run, Stands, number_may_begin}
-use Rattle.text.specs.declared.part.Part.{Part}
-use Rattle.text.specs.declared.part.Part.TheVariants.{Name, Digits, Mark, Other, End}
+use Rattle.text.specs.Parts.{Run, number_may_begin}
 use Rattle.grammar.specs.Faults.{front}
-use Rattle.reader.specs.Judged.{lacks}
-use Rattle.reader.proofs.ReadingParts.{never, no_name}
+use Rattle.reader.specs.Judged.{lacks, Unnamed}
+use Rattle.reader.proofs.ReadingParts.{never}
 use Rattle.reader.proofs.ReadingMarks.{longest_front}
 
 pub and_no_right : (x y : Bool) → y ≡ false → (x && y) ≡ false
@@ -34,24 +32,31 @@ pub clear_behind : (t : List ℕ) (p : ℕ) → name_byte (get_or t (p - 1) 0) �
 clear_behind t p h = ap not (and_no_right (ltb 0 p) _ h)
 
 -- a name stands there
-pub name_lacks : (has : List ℕ → Bool) (t : List ℕ) (p : ℕ) (w : List ℕ) (b : Bool) → clear t p ≡ true → Run name_byte t p w → (number_may_begin t p && digit (get_or t p 0)) ≡ false → has w ≡ b → lacks has t p ≡ not b
-name_lacks has t p w b c r d h =
+pub name_lacks : (has : List ℕ → Bool) (t : List ℕ) (p : ℕ) (w : List ℕ) → clear t p ≡ true → Run name_byte t p w → (number_may_begin t p && digit (get_or t p 0)) ≡ false → lacks has t p ≡ not (has w)
+name_lacks has t p w c r d =
     let n : name_byte (get_or t p 0) ≡ true = r.1.all p (omega arith) r.2 in
     let f : front name_byte (drop p t) ≡ w = longest_front name_byte t p r.0 r.1 ∙ sym r.3 in
     ap (λ x. ((x && name_byte (get_or t p 0)) && not (number_may_begin t p && digit (get_or t p 0))) && not (has (front name_byte (drop p t)))) c
     ∙ (ap (λ x. (x && not (number_may_begin t p && digit (get_or t p 0))) && not (has (front name_byte (drop p t)))) n
-    ∙ (ap (λ x. not x && not (has (front name_byte (drop p t)))) d ∙ (ap (λ x. not (has x)) f ∙ ap not h)))
+    ∙ (ap (λ x. not x && not (has (front name_byte (drop p t)))) d ∙ ap (λ x. not (has x)) f))
 
-no_byte : (has : List ℕ → Bool) (t : List ℕ) (p : ℕ) → name_byte (get_or t p 0) ≡ false → lacks has t p ≡ false
-no_byte has t p e = and_no_left _ _ (and_no_left _ _ (and_no_right (clear t p) _ e))
+-- a kind answers no name of a text exactly if it has none
+pub none_has : {K : Type 0} (text : K → List ℕ) (has : List ℕ → Bool) → ((x : K) → has (text x) ≡ true) → (w : List ℕ) (o : Option K)
+    → MatchOption o (has w ≡ false) (λ x. text x ≡ w) → (none : Bool) → is_some o ≡ not none → none ≡ not (has w)
+none_has text has named w None h true e = sym (ap not h)
+none_has text has named w None h false e = cc
+none_has text has named w (Some x) h true e = cc
+none_has text has named w (Some x) h false e = sym (ap not (ap has (sym h) ∙ named x))
 
--- no name stands there
-pub rest_lacks : (has : List ℕ → Bool) (t : List ℕ) (p : ℕ) (x : Part) → Stands t p x → ((q : ℕ) (r : _) → x ≡ Name q r → ⊥) → lacks has t p ≡ false
-rest_lacks has t p (Name q r) s n = absurd (n q r refl)
-rest_lacks has t p (Digits q r) s n =
-    let a = s.2 in
-    let b : digit (get_or t p 0) ≡ true = s.1.1.all p (omega arith) s.1.2 in
-    and_no_left _ _ (and_no_right _ _ (ap not (ap (λ z. z && digit (get_or t p 0)) a ∙ b)))
-rest_lacks has t p (Mark q g) s n = no_byte has t p (ap name_byte s.2 ∙ no_name g)
-rest_lacks has t p (Other q b) s n = no_byte has t p (ap name_byte s.2 ∙ s.3)
-rest_lacks has t p (End q) s n = no_byte has t p (ap name_byte (get_or_past t p 0 s.1))
+-- it answers none exactly if a name that it lacks begins there
+pub none_lacks : {K : Type 0} (text : K → List ℕ) (has : List ℕ → Bool) → ((x : K) → has (text x) ≡ true) → (t : List ℕ) (p : ℕ) (w : List ℕ) (o : Option K)
+    → MatchOption o (has w ≡ false) (λ x. text x ≡ w) → (none : Bool) → is_some o ≡ not none
+    → clear t p ≡ true → Run name_byte t p w → (number_may_begin t p && digit (get_or t p 0)) ≡ false → none ≡ lacks has t p
+none_lacks text has named t p w o h none e c r d = none_has text has named w o h none e ∙ sym (name_lacks has t p w c r d)
+
+-- the first place where a name is lacking
+pub unnamed_first : (has : List ℕ → Bool) (t : List ℕ) (limit : ℕ) (o : Option ℕ)
+    → MatchOption o ((k : ℕ) → 0 ≤ k → k < limit → lacks has t k ≡ false) (λ p. (0 ≤ p) × (p < limit) × (lacks has t p ≡ true) × ((k : ℕ) → 0 ≤ k → k < p → lacks has t k ≡ false))
+    → Unnamed has t limit o
+unnamed_first has t limit None h = λ q l. h q (omega arith) l
+unnamed_first has t limit (Some p) h = (h.1, h.2, λ q l. h.3 q (omega arith) l)

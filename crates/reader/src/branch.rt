@@ -3,24 +3,25 @@ ghost use Rattle.meaning.specs.Shape.{Shape, leaf, bracket, join};
 ghost use Rattle.layout.specs.Tree.{sort_of, link_of};
 
 use layout::{Link, Size, Sort, Tree};
-use std::alloc::Global;
+use std::alloc::{AllocError, Global};
 
-/// An expression as it is read: its counts and widths, and its tree, or `None` once memory has run out.
+/// An expression as it is read: its counts and widths, and its tree, or the error once memory has run out.
 /// Judging a text needs the sizes alone and goes on without a tree.
 #[derive(Drop)]
 pub struct Branch {
     pub size: Size,
-    pub tree: Option<Tree>,
+    pub tree: Result<Tree, AllocError>,
 }
 
 impl Branch {
+    // kept: the flag is that of a tree's leaf
     /// A name (`true`) or `_`.
     pub fn of_leaf(named: bool) -> Branch
         ensures { Means (leaf named) result }
     {
         Branch {
             size: Size::of_leaf(),
-            tree: Some(Tree::Leaf(named)),
+            tree: Ok(Tree::Leaf(named)),
         }
     }
 
@@ -45,32 +46,21 @@ impl Branch {
     }
 }
 
-fn bracketed(heap: Global, sort: Sort, inner: Option<Tree>) -> Option<Tree>
+fn bracketed(heap: Global, sort: Sort, inner: Result<Tree, AllocError>) -> Result<Tree, AllocError>
     ensures { (e : Shape) → OfShape e inner → OfShape (bracket (sort_of sort) e) result }
 {
-    let Some(tree) = inner else {
-        return None;
-    };
-    match Box::new(heap, tree) {
-        Ok(held) => Some(Tree::Bracket(sort, held)),
-        Err(_) => None,
-    }
+    Ok(Tree::Bracket(sort, Box::new(heap, inner?)?))
 }
 
-fn joined(heap: Global, link: Link, first: Option<Tree>, second: Option<Tree>) -> Option<Tree>
+fn joined(
+    heap: Global,
+    link: Link,
+    first: Result<Tree, AllocError>,
+    second: Result<Tree, AllocError>,
+) -> Result<Tree, AllocError>
     ensures { (e f : Shape) → OfShape e first → OfShape f second → OfShape (join (link_of link) e f) result }
 {
-    let Some(left) = first else {
-        return None;
-    };
-    let Some(right) = second else {
-        return None;
-    };
-    let Ok(left) = Box::new(heap, left) else {
-        return None;
-    };
-    match Box::new(heap, right) {
-        Ok(right) => Some(Tree::Join(link, left, right)),
-        Err(_) => None,
-    }
+    let left = Box::new(heap, first?)?;
+    let right = Box::new(heap, second?)?;
+    Ok(Tree::Join(link, left, right))
 }

@@ -1,11 +1,11 @@
-ghost use Rattle.std.specs.Prelude.{◌≡◌, ◌<◌, ◌≤◌, length, IfOk, slice_set};
+ghost use Rattle.std.specs.Prelude.{◌≡◌, ◌<◌, ◌≤◌, length, IfOk};
 ghost use Rattle.reader.specs.Entering.{HasName, AllNamed, Numbered, Enters, Entered};
 ghost use Rattle.reader.specs.Reading.{drafts_of};
 
 use super::draft::Draft;
 use super::reader::Reader;
 use grammar::Leaf;
-use std::alloc::{AllocError, Global};
+use std::alloc::AllocError;
 use text::{Entry, Kind, add};
 
 // The number of a name in the directory that the first `count` names of a buffer are, and how many they are then.
@@ -14,10 +14,7 @@ fn number<K: Kind>(names: &mut [K], count: usize, name: K) -> (u8, usize)
     requires small { count < 128 }
     ensures { Numbered K.text names.old names.new count (K.text name) result.0 result.1 }
 {
-    let Some(entry) = add(names, count, name) else {
-        return (0, count);
-    };
-    match entry {
+    match add(names, count, name).unwrap() {
         Entry::Known(number) => (number as u8, count),
         Entry::New(number) => (number as u8, number + 1),
     }
@@ -28,63 +25,46 @@ fn enter<K: Kind>(text: &[u8], draft: Draft, names: &mut [K], count: usize) -> (
     requires named { HasName K.has text.now draft.at draft.end }
     requires room { count < length names.old }
     requires small { count < 128 }
-    ensures { Enters K.Kind.text text.now draft names.old names.new count result.0 result.1 }
+    ensures { Enters K.text text.now draft names.old names.new count result.0 result.1 }
 {
-    let blank = Leaf {
-        name: None,
-        marks: draft.marks,
+    let Draft { at, end, marks } = draft;
+    let Some(end) = end else {
+        return (Leaf { name: None, marks }, count);
     };
-    let Some(end) = draft.end else {
-        return (blank, count);
-    };
-    let at = draft.at;
-    let Some(name) = K::of_text(&text[at..end]) else {
-        return (blank, count);
-    };
+    let name = K::of_text(&text[at..end]).unwrap();
     let (number, more) = number(names, count, name);
-    let leaf = Leaf {
-        name: Some(number),
-        marks: draft.marks,
-    };
-    (leaf, more)
-}
-
-fn put(leaves: &mut Vec<Leaf>, i: usize, leaf: Leaf)
-    requires { i < length leaves.old.items }
-    ensures { leaves.new.items ≡ slice_set leaves.old.items i leaf }
-{
-    leaves[i] = leaf;
+    let name = Some(number);
+    (Leaf { name, marks }, more)
 }
 
 /// As many leaves as a reader has noted, with no names yet.
-pub fn blank_leaves(heap: Global, reader: &Reader) -> Result<Vec<Leaf>, AllocError>
-    requires { reader.now.leaves ≤ 128 }
-    ensures { IfOk result (λ v. length v.items ≡ reader.now.leaves) }
+pub fn blank_leaves(reader: &Reader) -> Result<Vec<Leaf>, AllocError>
+    ensures { IfOk result (λ v. length v.items ≡ length (drafts_of reader.now)) }
 {
-    let mut leaves = Vec::new(heap);
-    for i in 0..reader.leaves {
-        leaves.push(Leaf {
+    let drafts = reader.drafts.as_slice();
+    drafts
+        .iter()
+        .map(|draft| Leaf {
             name: None,
-            marks: reader.drafts[i].marks,
-        })?;
-    }
-    Ok(leaves)
+            marks: draft.marks,
+        })
+        .collect(reader.heap)
 }
 
 /// Writes the distinct names of a text to the front of a buffer, makes the leaves, and answers how many names there are.
 pub fn enter_all<K: Kind>(reader: &Reader, names: &mut [K], leaves: &mut Vec<Leaf>) -> usize
     requires room { 128 ≤ length names.old }
-    requires few { reader.now.leaves ≤ 128 }
-    requires long { length leaves.old.items ≡ reader.now.leaves }
+    requires long { length leaves.old.items ≡ length (drafts_of reader.now) }
     requires named { AllNamed K.has reader.now.text.now (drafts_of reader.now) }
-    ensures long { length leaves.new.items ≡ reader.now.leaves }
-    ensures entered { Entered K.text reader.now.text.now (drafts_of reader.now) names.old names.new leaves.new.items result reader.now.leaves }
+    ensures long { length leaves.new.items ≡ length (drafts_of reader.now) }
+    ensures entered { Entered K.text reader.now.text.now (drafts_of reader.now) names.old names.new leaves.new.items result (length (drafts_of reader.now)) }
 {
+    let drafts = reader.drafts.as_slice();
     let mut count = 0;
-    for i in 0..reader.leaves {
-        let draft = reader.drafts[i];
-        let (leaf, more) = enter(reader.text, draft, names, count);
-        put(leaves, i, leaf);
+    // kept: a write through `iter_mut` beside another iterator tells a proof only the length
+    for (i, draft) in drafts.iter().enumerate() {
+        let (leaf, more) = enter(reader.text, *draft, names, count);
+        leaves[i] = leaf;
         count = more;
     }
     count

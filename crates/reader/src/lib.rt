@@ -2,6 +2,7 @@
 //! `plan`, whose calls meet what it requires; they are the product's calls.
 #![tactic(auto)]
 
+mod bracket;
 mod branch;
 mod draft;
 mod entering;

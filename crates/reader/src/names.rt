@@ -11,13 +11,7 @@ fn lacks_name<K: Kind>(text: &[u8], at: usize) -> bool
     if at > 0 && is_name_byte(text[at - 1]) {
         return false;
     }
-    match part_at(text, at) {
-        Part::Name { at: _, run } => match K::of_text(run) {
-            Some(_) => false,
-            None => true,
-        },
-        _ => false,
-    }
+    matches!(part_at(text, at), Part::Name { run, .. } if K::of_text(run).is_none())
 }
 
 /// The first place below a limit where a name begins that the kind does not have.
@@ -25,10 +19,5 @@ pub fn first_unnamed<K: Kind>(text: &[u8], limit: usize) -> Option<usize>
     requires { limit ≤ length text.now }
     ensures { Unnamed K.has text.now limit result }
 {
-    for at in 0..limit {
-        if lacks_name::<K>(text, at) {
-            return Some(at);
-        }
-    }
-    None
+    (0..limit).find(|&at| lacks_name::<K>(text, at))
 }

@@ -1,8 +1,12 @@
-use Rattle.std.proofs.Common.{sym, below_more}
+use Rattle.std.proofs.Common.{◌≡◌, true, false, rules}
+use Rattle.std.proofs.lemmas.Iterator.{first_from_Range}
+use Rattle.reader.specs.Judged.{lacks}
+use Rattle.reader.proofs.ReadingUnnamed.{unnamed_first}
 use Rattle.reader.proofs.names.first_unnamed.Goals as goal
 
-pub returns-then-lacks_name : goal.returns-then-lacks_name
-returns-then-lacks_name g c = (c.loop-at-test.true, sym c.if-lacks_name.ensures, c.loop-at.invariant)
-
-pub loop-at-preserved : goal.loop-at-preserved
-loop-at-preserved g c = below_more _ _ c.loop-at.invariant (sym c.if-lacks_name.ensures)
+pub returns : goal.returns
+returns g c =
+    let has = g.K.Kind.has in
+    let t = c.args.text.now in
+    unnamed_first has t c.args.limit c.find.result
+    (first_from_Range _ _ _ c.find.result (λ i. lacks has t i ≡ true) (λ i. lacks has t i ≡ false) c.find.ensures.ran (λ x q k. search rules) (λ x q k. search rules))

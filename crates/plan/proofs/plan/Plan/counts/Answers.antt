@@ -1,5 +1,5 @@
 use Rattle.std.proofs.Common.{arith}
-use Rattle.plan.proofs.FittingLeaves.{plan_items, plan_told}
+use Rattle.plan.proofs.FittingLeaves.{plan_items}
 use Rattle.plan.proofs.plan.Plan.counts.Goals as goal
 
 pub item_count-items-requires : goal.item_count-items-requires
@@ -7,8 +7,3 @@ item_count-items-requires c = omega (arith, plan_items c.args.self.now)
 
 pub overflow_mul-result : goal.overflow_mul-result
 overflow_mul-result c = omega (arith, plan_items c.args.self.now, c.item_count-items.ensures)
-
-pub returns : goal.returns
-returns c =
-    plan_told c.args.self.now _ _ _ c.item_count-items.ensures (c.width.ensures _ c.size-size.ensures)
-    (c.cuts.ensures _ c.size-size.ensures)

@@ -1,5 +1,5 @@
 use Rattle.std.proofs.Common.{◌+◌, ◌-◌, ◌*◌, length}
-use Rattle.reader.proofs.reader.Reader.+read_bracket_read_item_read_plan_read_plans.Given as goal
+use Rattle.reader.proofs.reader.Reader.+reading.Given as goal
 
 abbrev pub decreases-read_bracket : goal.decreases-read_bracket
 decreases-read_bracket l = 8 * (length l.self.now.text.now - l.self.now.at) + 1
