@@ -1,7 +1,7 @@
 use Rattle.std.proofs.Common.{◌≡◌, ℕ, suc, ◌+◌, ◌-◌, ◌*◌, ◌/◌, ◌%◌, ◌^◌, ◌<◌, ◌≤◌, min, max, Bool, true, false, ◌&&◌, ◌||◌, eqb, ltb, sym, refl, ap, ◌∙◌, inl, inr, pow-suc, arith, pow_pos, pow_mono, pow-add}
 use lib.Bits.{bit_and, bit_or, and_shr, or_shr, and_step, or_step}
 use native.Mathlib.Nat.{div-eq_of_lt, div_self}
-use Rattle.std.proofs.lemmas.Nat.{shl-shr, pow_below, one_shl, and_mask}
+use Rattle.std.proofs.lemmas.Nat.{shl-shr, pow_below, one_shl}
 use Rattle.std.proofs.lemmas.Bool.{cases_order, cases_lt, eq-eqb, ne_eqb, lt-ltb, le-ltb}
 use Rattle.std.proofs.lemmas.Bool.Decides.{nat_tests}
 use Rattle.engine.specs.Scales.{bit}
@@ -61,10 +61,6 @@ bays_set s a k h = ap (λ t. ltb k 64 && t) (bit_set 64 s a k h) ∙ (elim (case
   | inl l ↦ rw (lt-ltb k 64 l, lt-ltb a 64 h)
   | inr l ↦ let ne : eqb a k ≡ false = ne_eqb a k (λ e. omega arith) in rw (le-ltb k 64 l, lt-ltb a 64 h) (sym ne)
 ])
-
--- a bit, as code tests it
-pub bit_tested : (n k : ℕ) → eqb (bit_and (n / 2 ^ k) 1) 1 ≡ bit n k
-bit_tested n k = ap (λ x. eqb x 1) (and_mask (n / 2 ^ k) 1)
 
 -- a number of w bits has no bit beyond them
 pub bit_past : (n w k : ℕ) → n < 2 ^ w → w ≤ k → bit n k ≡ false

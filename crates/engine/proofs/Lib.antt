@@ -12,12 +12,13 @@ pub mod Firsts
 pub mod Fitted
 pub mod FollowingLaws
 pub mod Leasts
+pub mod Lives
 pub mod Tails
 pub mod Meaning
 pub mod Onward
 pub mod OverRows
 pub mod Passes
+pub mod Reversed
 pub mod RowBits
-pub mod Shifts
 pub mod Stages
 pub mod Tested

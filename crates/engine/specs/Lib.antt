@@ -7,5 +7,6 @@ pub mod Joined
 pub mod Next
 pub mod RowSets
 pub mod Scales
+pub mod Searches
 pub mod Ways
 pub mod Signs

@@ -6,7 +6,7 @@ use super::scale::Scale;
 use grammar::Marks;
 
 /// The bays, of 0 to 63, that every one of some readings asks for: a bit for each.
-#[derive(Clone, Copy)]
+#[derive(Clone, Copy, Debug, PartialEq, Eq)]
 pub struct Bays {
     bits: u64,
 }
@@ -51,16 +51,10 @@ impl Scale for Bays {
 
     fn extended(&self, marks: &Marks) -> Bays {
         match marks.bay {
-            Some(b) => {
-                if b < 64 {
-                    Bays {
-                        bits: self.bits | (1 << b),
-                    }
-                } else {
-                    *self
-                }
-            }
-            None => *self,
+            Some(b) if b < 64 => Bays {
+                bits: self.bits | (1 << b),
+            },
+            _ => *self,
         }
     }
 }

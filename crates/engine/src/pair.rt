@@ -4,7 +4,7 @@ use super::scale::Scale;
 use grammar::Marks;
 
 /// Amounts in two scales side by side.
-#[derive(Clone, Copy)]
+#[derive(Clone, Copy, Debug, PartialEq, Eq)]
 pub struct Pair<A, B> {
     pub first: A,
     pub second: B,

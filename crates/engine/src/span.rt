@@ -7,7 +7,7 @@ use super::scale::Scale;
 use grammar::Marks;
 
 /// The least and the greatest sum of corrections over some readings.
-#[derive(Clone, Copy)]
+#[derive(Clone, Copy, Debug, PartialEq, Eq)]
 pub struct Span {
     pub low: i32,
     pub high: i32,

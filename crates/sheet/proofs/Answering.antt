@@ -1,36 +1,29 @@
 -- What is found over the rows of a plan is what a call on a sheet should answer.
-use Rattle.std.proofs.Common.{◌≡◌, ℕ, ◌-◌, ◌<◌, ◌≤◌, Bool, true, cond, ltb, ◌⊎◌, ◌↔◌, List, [], ◌∷◌, ◌++◌, map, reverse, length, get_or, Some, None, Ok, Err, Decides, Option, sym, refl, ap, ◌∙◌, subst, inl, inr, arith}
+use Rattle.std.proofs.Common.{◌≡◌, ℕ, ◌-◌, ◌<◌, ◌≤◌, Bool, true, cond, ltb, ◌⊎◌, ◌↔◌, List, [], ◌∷◌, ◌++◌, map, reverse, length, get_or, Some, None, Ok, Err, Decides, Option, sym, refl, subst, inl, inr, arith}
 use lib.ListN.{length-map}
 use Rattle.std.proofs.lemmas.Bool.{lt-ltb, le-ltb}
-use Rattle.std.specs.List.{AllByRecursion}
-use Rattle.text.specs.Bytes.{every}
 use Rattle.text.specs.Directory.{Text}
 use Rattle.meaning.specs.CutOrder.{cut_list}
 use Rattle.grammar.specs.declared.leaf.Leaf.{Leaf}
 use Rattle.grammar.specs.declared.leaf.Marks.{Marks}
 use Rattle.spots.specs.declared.moves.RowMove.{RowMove}
 use Rattle.plan.specs.declared.plan.Plan.{Plan}
-use Rattle.sheet.specs.declared.refusal.Refusal.TheVariants.{Short, NotTaken, NoReading}
+use Rattle.std.specs.Option.{MatchOption, ok_or}
+use Rattle.sheet.specs.declared.refusal.Refusal.TheVariants.{NotTaken, NoReading}
+use Rattle.engine.specs.declared.searching.Search.{Search}
+use Rattle.engine.specs.Searches.{AheadOf, WholeWay, worth}
 use Rattle.engine.specs.Fits.{standing, stamped}
 use Rattle.engine.specs.Joined.{Joined}
 use Rattle.engine.specs.Ways.{Way, amount, Searchable}
 use Rattle.engine.specs.Ahead.{range_over, range_of, Ahead}
 use Rattle.engine.specs.Next.{ReadsNext}
 use Rattle.engine.specs.Answers.{Distance, Amount}
-use Rattle.sheet.specs.Calls.{short, short_list, Follows, Begins, Reads, Stamps, StandsThen, Tells, Weighs}
-use Rattle.sheet.specs.Views.{ground_over}
+use Rattle.sheet.specs.Calls.{Answered, short, short_list, Follows, Begins, Reads, Stamps, StandsThen, Tells, Weighs}
+use Rattle.sheet.specs.Views.{ground_over, GoesOver}
 use Rattle.engine.proofs.Meaning.{taken_iff_live, reading_is_way, amount_is_joined}
 use Rattle.engine.proofs.Beyond.{distance_is, nothing_ahead}
 use Rattle.engine.proofs.Onward.{next_is}
-use Rattle.sheet.proofs.Stamping.{all_below}
 use Rattle.sheet.proofs.Grounds.{shape, plan_leaves, plan_moves, whole, laid_out, ready}
-
--- the texts are as many as the names
-pub same_short : {K : Type 0} (text : K → Text) (names : List K) (m a : ℕ) → short (length (map text names)) m a ≡ short (length names) m a
-same_short text names m a = ap (λ k. short k m a) (length-map names text)
-
-pub same_short_list : {K : Type 0} (text : K → Text) (names : List K) (l m a : ℕ) → short_list (length (map text names)) l m a ≡ short_list (length names) l m a
-same_short_list text names l m a = ap (λ k. short_list k l m a) (length-map names text)
 
 -- where nothing is short there is room
 long_enough : (a b : ℕ) (rest : Option ℕ) → cond (ltb a b) (Some b) rest ≡ None → (b ≤ a) × (rest ≡ None)
@@ -57,6 +50,10 @@ room_list n l m a h =
     let y = long_enough m 32768 _ w.1 in
     let z = long_enough a 8192 _ y.1 in
     (x.0, w.0, y.0, z.0)
+
+pub enough_there : {A : Type 0} (lack : Option ℕ) (x : A) → Answered lack (λ _. Unit {0}) (λ _. ⊥) (Ok x) → None ≡ lack
+enough_there (Some n) x h = cc
+enough_there None x h = refl
 
 -- over stamps that are kept as numbers
 module _ {K : Type 0} (text : K → Text) (p : Plan) (names : List K) (stamps : List ℕ) where
@@ -101,66 +98,39 @@ module _ {K : Type 0} (text : K → Text) (p : Plan) (names : List K) (stamps : 
     abbrev lack : Option ℕ
     lack = short (length (map text names)) m a
 
-    lacks : (o : Option ℕ) → o ≡ short (length names) m a → o ≡ lack
-    lacks o e = e ∙ sym (same_short text names m a)
-
-    pub tells_short : (n : ℕ) → Some n ≡ short (length names) m a → Tells (ground_over text p names) stood lack (Err (Short n))
-    tells_short n e = subst (λ o. Tells (ground_over text p names) stood o (Err (Short n))) (lacks (Some n) e) refl
-
-    pub tells_some : None ≡ short (length names) m a → (x : ℕ × ℕ) → Joined range_over (range_of (plan_leaves p)) (Ahead (plan_moves p) fit rows (length stamps)) x → Tells (ground_over text p names) stood lack (Ok x)
-    tells_some e x j = subst (λ o. Tells (ground_over text p names) stood o (Ok x)) (lacks None e) (distance_some x j)
-
-    pub tells_none : None ≡ short (length names) m a → ((u : List ℕ) → Ahead (plan_moves p) fit rows (length stamps) u → ⊥) → Tells (ground_over text p names) stood lack (Err NoReading)
-    tells_none e h = subst (λ o. Tells (ground_over text p names) stood o (Err NoReading)) (lacks None e) (refl, distance_none h)
-
-    module _ {S V : Type 0} (value : S → V) (join : V → V → V) (start : V) (extend : V → Marks → V) where
-      pub weighs_short : (n : ℕ) → Some n ≡ short (length names) m a → Weighs value join start extend (ground_over text p names) stood lack (Err (Short n))
-      weighs_short n e = subst (λ o. Weighs value join start extend (ground_over text p names) stood o (Err (Short n))) (lacks (Some n) e) refl
-
-      pub weighs_some : None ≡ short (length names) m a → (x : S) → Joined join (amount start extend (plan_leaves p)) (Way (plan_moves p) fit (length stamps) (rows - 1)) (value x) → Weighs value join start extend (ground_over text p names) stood lack (Ok x)
-      weighs_some e x j = subst (λ o. Weighs value join start extend (ground_over text p names) stood o (Ok x)) (lacks None e) (amount_some join start extend (value x) j)
-
-      pub weighs_none : None ≡ short (length names) m a → ((w : List ℕ) → Way (plan_moves p) fit (length stamps) (rows - 1) w → ⊥) → Weighs value join start extend (ground_over text p names) stood lack (Err NoReading)
-      weighs_none e h = subst (λ o. Weighs value join start extend (ground_over text p names) stood o (Err NoReading)) (lacks None e) (refl, amount_none h)
-
     module _ (t : Text) where
-      pub stamps_short : (n : ℕ) → Some n ≡ short (length names) m a → Stamps (ground_over text p names) stood t lack (Err (Short n)) × StandsThen (ground_over text p names) stood t lack stood
-      stamps_short n e = (subst (λ o. Stamps (ground_over text p names) stood t o (Err (Short n))) (lacks (Some n) e) refl, subst (λ o. StandsThen (ground_over text p names) stood t o stood) (lacks (Some n) e) refl)
+      pub stamps_not : None ≡ lack → (Follows (ground_over text p names) stood t → ⊥) → Stamps (ground_over text p names) stood t lack (Err NotTaken) × StandsThen (ground_over text p names) stood t lack stood
+      stamps_not e h = (subst (λ o. Stamps (ground_over text p names) stood t o (Err NotTaken)) e (refl, h), subst (λ o. StandsThen (ground_over text p names) stood t o stood) e (inr (h, refl)))
 
-      pub stamps_not : None ≡ short (length names) m a → (Follows (ground_over text p names) stood t → ⊥) → Stamps (ground_over text p names) stood t lack (Err NotTaken) × StandsThen (ground_over text p names) stood t lack stood
-      stamps_not e h = (subst (λ o. Stamps (ground_over text p names) stood t o (Err NotTaken)) (lacks None e) (refl, h), subst (λ o. StandsThen (ground_over text p names) stood t o stood) (lacks None e) (inr (h, refl)))
+      pub stamps_taken : None ≡ lack → Follows (ground_over text p names) stood t → (τ : List Text) → τ ≡ stood ++ (t ∷ []) → Stamps (ground_over text p names) stood t lack (Ok tt) × StandsThen (ground_over text p names) stood t lack τ
+      stamps_taken e h τ is = (subst (λ o. Stamps (ground_over text p names) stood t o (Ok tt)) e h, subst (λ o. StandsThen (ground_over text p names) stood t o τ) e (inl (h, is)))
 
-      pub stamps_taken : None ≡ short (length names) m a → Follows (ground_over text p names) stood t → (τ : List Text) → τ ≡ stood ++ (t ∷ []) → Stamps (ground_over text p names) stood t lack (Ok tt) × StandsThen (ground_over text p names) stood t lack τ
-      stamps_taken e h τ is = (subst (λ o. Stamps (ground_over text p names) stood t o (Ok tt)) (lacks None e) h, subst (λ o. StandsThen (ground_over text p names) stood t o τ) (lacks None e) (inl (h, is)))
-
--- the same of what a plan's own functions answer, and of a list of the stamps
-module _ {K : Type 0} (text : K → Text) (p : Plan) (names : List K) (stamps : List ℕ) (row_count : ℕ) (leaves : List Leaf) (moves : List RowMove) (list : List ℕ)
-    (r : row_count ≡ length (cut_list (shape p))) (l : leaves ≡ plan_leaves p) (v : moves ≡ plan_moves p) (f : list ≡ stamps) where
-  pub moved : (P : ℕ → List Leaf → List RowMove → List ℕ → Type 0) → P row_count leaves moves list → P (length (cut_list (shape p))) (plan_leaves p) (plan_moves p) stamps
-  moved P h = subst (λ n. P n (plan_leaves p) (plan_moves p) stamps) r (subst (λ x. P row_count x (plan_moves p) stamps) l (subst (λ x. P row_count leaves x stamps) v (subst (λ x. P row_count leaves moves x) f h)))
-
+-- what a plan's own functions answer is what a search relies on
+module _ (p : Plan) (row_count : ℕ) (leaves : List Leaf) (moves : List RowMove) (r : row_count ≡ length (cut_list (shape p))) (l : leaves ≡ plan_leaves p) (v : moves ≡ plan_moves p) where
   pub ready_at : (n : ℕ) → 128 ≤ n → Searchable row_count n leaves moves
   ready_at n h = subst (λ x. Searchable x n leaves moves) (sym r) (subst (λ x. Searchable (length (cut_list (shape p))) n x moves) (sym l) (subst (λ x. Searchable (length (cut_list (shape p))) n (plan_leaves p) x) (sym v) (ready p n h)))
 
-  pub among_at : (n : ℕ) → every (λ k. ltb k n) stamps ≡ true → AllByRecursion (λ k. k < n) list
-  among_at n h = subst (λ x. AllByRecursion (λ k. k < n) x) (sym f) (all_below n stamps h)
+-- the same of what a search finds that goes over the plan
+module _ {K : Type 0} (text : K → Text) (p : Plan) (names : List K) (stamps : List ℕ) (s : Search K) (over : GoesOver p names stamps s) where
+  pub moved : (P : ℕ → List Leaf → List RowMove → List K → List ℕ → Type 0) → P s.rows s.leaves.now s.moves.now s.names.now s.stamps.now → P (length (cut_list (shape p))) (plan_leaves p) (plan_moves p) names stamps
+  moved P h =
+      subst (λ n. P n (plan_leaves p) (plan_moves p) names stamps) over.rows
+      (subst (λ x. P s.rows x (plan_moves p) names stamps) over.leaves
+      (subst (λ x. P s.rows s.leaves.now x names stamps) over.moves
+      (subst (λ x. P s.rows s.leaves.now s.moves.now x stamps) over.names (subst (λ x. P s.rows s.leaves.now s.moves.now s.names.now x) over.stamps h))))
 
-  abbrev Fit : List Leaf → List ℕ → ℕ → ℕ → Bool
-  Fit ls xs = stamped (map text names) ls (standing (map text names) xs)
+  abbrev Fit : List Leaf → List K → List ℕ → ℕ → ℕ → Bool
+  Fit ls ns xs = stamped (map text ns) ls (standing (map text ns) xs)
 
-  pub live_at : (b : Bool) → Decides b ((q : ℕ) × (w : List ℕ) × (q < row_count) × Way moves (Fit leaves list) (length list) q w) → Decides b (Begins (ground_over text p names) (standing (map text names) stamps))
-  live_at b d = live_begins text p names stamps b (moved (λ n ls ms xs. Decides b ((q : ℕ) × (w : List ℕ) × (q < n) × Way ms (Fit ls xs) (length xs) q w)) d)
+  pub live_at : (b : Bool) → Decides b ((q : ℕ) × (w : List ℕ) × (q < s.rows) × WholeWay text s q w) → Decides b (Begins (ground_over text p names) (standing (map text names) stamps))
+  live_at b d = live_begins text p names stamps b (moved (λ n ls ms ns xs. Decides b ((q : ℕ) × (w : List ℕ) × (q < n) × Way ms (Fit ls ns xs) (length xs) q w)) d)
 
-  module _ (m a : ℕ) (e : None ≡ short (length names) m a) where
-    pub tells_some_at : (x : ℕ × ℕ) → Joined range_over (range_of leaves) (Ahead moves (Fit leaves list) row_count (length list)) x → Tells (ground_over text p names) (standing (map text names) stamps) (short (length (map text names)) m a) (Ok x)
-    tells_some_at x j = tells_some text p names stamps m a e x (moved (λ n ls ms xs. Joined range_over (range_of ls) (Ahead ms (Fit ls xs) n (length xs)) x) j)
-
-    pub tells_none_at : ((u : List ℕ) → Ahead moves (Fit leaves list) row_count (length list) u → ⊥) → Tells (ground_over text p names) (standing (map text names) stamps) (short (length (map text names)) m a) (Err NoReading)
-    tells_none_at h = tells_none text p names stamps m a e (moved (λ n ls ms xs. (u : List ℕ) → Ahead ms (Fit ls xs) n (length xs) u → ⊥) h)
+  module _ (m a : ℕ) (e : None ≡ short (length (map text names)) m a) where
+    pub tells_at : (o : Option (ℕ × ℕ)) → MatchOption o ((u : List ℕ) → AheadOf text s u → ⊥) (Joined range_over (range_of s.leaves.now) (AheadOf text s)) → Tells (ground_over text p names) (standing (map text names) stamps) (short (length (map text names)) m a) (ok_or o NoReading)
+    tells_at None h = subst (λ k. Tells (ground_over text p names) (standing (map text names) stamps) k (Err NoReading)) e (refl, distance_none text p names stamps (moved (λ n ls ms ns xs. (u : List ℕ) → Ahead ms (Fit ls ns xs) n (length xs) u → ⊥) h))
+    tells_at (Some x) h = subst (λ k. Tells (ground_over text p names) (standing (map text names) stamps) k (Ok x)) e (distance_some text p names stamps x (moved (λ n ls ms ns xs. Joined range_over (range_of ls) (Ahead ms (Fit ls ns xs) n (length xs)) x) h))
 
     module _ {S V : Type 0} (value : S → V) (join : V → V → V) (start : V) (extend : V → Marks → V) where
-      pub weighs_some_at : (x : S) → Joined join (amount start extend leaves) (Way moves (Fit leaves list) (length list) (row_count - 1)) (value x) → Weighs value join start extend (ground_over text p names) (standing (map text names) stamps) (short (length (map text names)) m a) (Ok x)
-      weighs_some_at x j = weighs_some text p names stamps m a value join start extend e x (moved (λ n ls ms xs. Joined join (amount start extend ls) (Way ms (Fit ls xs) (length xs) (n - 1)) (value x)) j)
-
-      pub weighs_none_at : ((w : List ℕ) → Way moves (Fit leaves list) (length list) (row_count - 1) w → ⊥) → Weighs value join start extend (ground_over text p names) (standing (map text names) stamps) (short (length (map text names)) m a) (Err NoReading)
-      weighs_none_at h = weighs_none text p names stamps m a value join start extend e (moved (λ n ls ms xs. (w : List ℕ) → Way ms (Fit ls xs) (length xs) (n - 1) w → ⊥) h)
+      pub weighs_at : (o : Option S) → MatchOption o ((w : List ℕ) → WholeWay text s (s.rows - 1) w → ⊥) (λ x. Joined join (worth start extend s) (WholeWay text s (s.rows - 1)) (value x)) → Weighs value join start extend (ground_over text p names) (standing (map text names) stamps) (short (length (map text names)) m a) (ok_or o NoReading)
+      weighs_at None h = subst (λ k. Weighs value join start extend (ground_over text p names) (standing (map text names) stamps) k (Err NoReading)) e (refl, amount_none text p names stamps (moved (λ n ls ms ns xs. (w : List ℕ) → Way ms (Fit ls ns xs) (length xs) (n - 1) w → ⊥) h))
+      weighs_at (Some x) h = subst (λ k. Weighs value join start extend (ground_over text p names) (standing (map text names) stamps) k (Ok x)) e (amount_some text p names stamps join start extend (value x) (moved (λ n ls ms ns xs. Joined join (amount start extend ls) (Way ms (Fit ls ns xs) (length xs) (n - 1)) (value x)) h))

@@ -1,5 +1,5 @@
 -- Reading the leaves of a list one by one, beside the stamps, tells whether it is a reading.
-use Rattle.std.proofs.Common.{◌≡◌, ℕ, zero, suc, ◌+◌, ◌-◌, ◌<◌, ◌≤◌, Bool, true, false, List, [], ◌∷◌, map, reverse, length, get_or, take, Some, None, Ok, Err, Decides, Option, Result, sym, refl, ap, ◌∙◌, subst, inl, inr, add-one, arith}
+use Rattle.std.proofs.Common.{◌≡◌, ℕ, zero, suc, ◌+◌, ◌-◌, ◌<◌, ◌≤◌, Bool, true, false, List, [], ◌∷◌, map, reverse, length, get_or, take, None, Ok, Err, Decides, Option, Result, sym, refl, ap, ◌∙◌, subst, inl, inr, add-one, arith}
 use lib.ListN.{length-map}
 use Rattle.std.proofs.lemmas.List.{take_more, take_all, reverse-append, reverse-reverse, get_or_past}
 use Rattle.std.proofs.lemmas.Bool.{cases_lt, and_parts, both_ways}
@@ -11,15 +11,15 @@ use Rattle.grammar.specs.declared.leaf.Leaf.{Leaf}
 use Rattle.spots.specs.declared.moves.RowMove.{RowMove}
 use Rattle.plan.specs.declared.plan.Plan.{Plan}
 use Rattle.sheet.specs.declared.refusal.Refusal.{Refusal}
-use Rattle.sheet.specs.declared.refusal.Refusal.TheVariants.{Short}
 use Rattle.engine.specs.Answers.{fit_all}
 use Rattle.sheet.specs.Calls.{Ground, short, Reads, Checks}
 use Rattle.engine.specs.Finish.{HasRows}
 use Rattle.engine.specs.Fits.{fits_name, fits, stamped}
-use Rattle.engine.specs.RowSets.{in_set}
-use Rattle.sheet.specs.Views.{ground_over}
+use Rattle.sheet.specs.Views.{ground_over, GoesOver}
 use Rattle.engine.specs.Ways.{Way}
-use Rattle.sheet.proofs.Answering.{same_short}
+use Rattle.engine.specs.declared.searching.Search.{Search}
+use Rattle.engine.specs.Searches.{texts_of}
+use Rattle.sheet.proofs.Answering.{moved}
 use Rattle.engine.proofs.Fitted.{nothing_fits, fit_length, way_fits}
 use Rattle.sheet.proofs.Grounds.{shape, plan_leaves, plan_moves, whole, laid_out, leaf_number, permitted_short}
 use Rattle.engine.proofs.Meaning.{reading_is_way, way_is_reading}
@@ -31,12 +31,6 @@ module _ (moves : List RowMove) (fit : ℕ → ℕ → Bool) (rows : ℕ) (list 
   read_more i next h has =
       let turned : reverse (take (i + 1) list) ≡ get_or list i 0 ∷ reverse (take i list) = ap reverse (take_more list i 0 h) ∙ reverse-append (take i list) (get_or list i 0 ∷ []) in
       subst (λ w. HasRows moves fit rows (i + 1) w next) (sym turned) (subst (λ k. HasRows moves fit rows k (get_or list i 0 ∷ reverse (take i list)) next) (sym (add-one i)) has)
-
-  -- the whole list
-  pub read_all : (n : ℕ) (here : List ℕ) (b : Bool) → length list ≡ n → 0 < rows → b ≡ in_set here 0 (rows - 1) → HasRows moves fit rows n (reverse (take n list)) here → Decides b (Way moves fit n (rows - 1) (reverse list))
-  read_all n here b size some is has =
-      let d : Decides (in_set here 0 (rows - 1)) (Way moves fit n (rows - 1) (reverse (take n list))) = has (rows - 1) (omega arith) in
-      subst (λ x. Decides x (Way moves fit n (rows - 1) (reverse list))) (sym is) (subst (λ w. Decides (in_set here 0 (rows - 1)) (Way moves fit n (rows - 1) (reverse w))) (take_all n list (omega arith)) d)
 
 module _ (texts : List Text) (leaves : List Leaf) where
   -- each leaf that is read fits its stamp
@@ -68,10 +62,6 @@ stamp_here text stamps i x h e = text_at text stamps i x h ∙ ap text (sym e)
 
 -- what follows from an answer
 module _ (g : Ground) (σ : List Text) (w : List ℕ) where
-  pub answers_yes : (r : Result Bool Refusal) → Checks g σ w None r → Reads g σ w → r ≡ Ok true
-  answers_yes (Ok b) d h = ap Ok (d.1 h)
-  answers_yes (Err e) d h = absurd d
-
   pub answers_no : (r : Result Bool Refusal) → Checks g σ w None r → (Reads g σ w → ⊥) → r ≡ Ok false
   answers_no (Ok true) d h = absurd (h (d.0 refl))
   answers_no (Ok false) d h = refl
@@ -94,15 +84,9 @@ module _ {K : Type 0} (text : K → Text) (p : Plan) (names stamps : List K) (li
   abbrev σ : List Text
   σ = map text stamps
 
-  abbrev IsWay : ℕ → List Leaf → List RowMove → Type 0
-  IsWay rows leaves moves = Way moves (stamped (map text names) leaves σ) (length stamps) (rows - 1) (reverse list)
-
-  pub checks_short : (n : ℕ) → Some n ≡ short (length names) m a → Checks (ground_over text p names) σ list lack (Err (Short n))
-  checks_short n e = subst (λ o. Checks (ground_over text p names) σ list o (Err (Short n))) (e ∙ sym (same_short text names m a)) refl
-
-  module _ (e : None ≡ short (length names) m a) where
+  module _ (e : None ≡ lack) where
     checks : (b : Bool) → Decides b (Reads (ground_over text p names) σ list) → Checks (ground_over text p names) σ list lack (Ok b)
-    checks b d = subst (λ o. Checks (ground_over text p names) σ list o (Ok b)) (e ∙ sym (same_short text names m a)) d
+    checks b d = subst (λ o. Checks (ground_over text p names) σ list o (Ok b)) e d
 
     checks_no : (Reads (ground_over text p names) σ list → ⊥) → Checks (ground_over text p names) σ list lack (Ok false)
     checks_no h = checks false ((λ f. nothing_fits (map text names) (plan_leaves p) f), (λ r. absurd (h r)))
@@ -110,15 +94,15 @@ module _ {K : Type 0} (text : K → Text) (p : Plan) (names stamps : List K) (li
     pub checks_uneven : (length list ≡ length stamps → ⊥) → Checks (ground_over text p names) σ list lack (Ok false)
     checks_uneven h = checks_no (λ r. h (reads_length (ground_over text p names) σ list r ∙ length-map stamps text))
 
-    pub checks_long : (leaves : List Leaf) → leaves ≡ plan_leaves p → length leaves < length list → Checks (ground_over text p names) σ list lack (Ok false)
-    checks_long leaves is h = checks_no (λ r. omega (arith, permitted_short (shape p) list r.0, leaf_number p, ap length is))
+    module _ (x : Search K) (stood : List ℕ) (over : GoesOver p names stood x) where
+      pub checks_long : length x.leaves.now < length list → Checks (ground_over text p names) σ list lack (Ok false)
+      checks_long h = checks_no (λ r. omega (arith, permitted_short (shape p) list r.0, leaf_number p, ap length over.leaves))
 
-    pub checks_way : (row_count : ℕ) (leaves : List Leaf) (moves : List RowMove) → row_count ≡ length (cut_list (shape p)) → leaves ≡ plan_leaves p → moves ≡ plan_moves p
-        → (b : Bool) → Decides b (IsWay row_count leaves moves) → Checks (ground_over text p names) σ list lack (Ok b)
-    checks_way row_count leaves moves rs ls ms b d =
-        let there : Decides b (IsWay (length (cut_list (shape p))) (plan_leaves p) (plan_moves p)) = subst (λ n. Decides b (IsWay n (plan_leaves p) (plan_moves p))) rs (subst (λ x. Decides b (IsWay row_count x (plan_moves p))) ls (subst (λ x. Decides b (IsWay row_count leaves x)) ms d)) in
-        let size : length σ ≡ length stamps = length-map stamps text in
-        checks b (
-          (λ t. subst (Reads (ground_over text p names) σ) (reverse-reverse list) (way_is_reading (shape p) (cut_list (shape p)) (plan_moves p) (laid_out p) (whole p) (plan_leaves p) (map text names) σ (reverse list) (subst (λ n. Way (plan_moves p) (stamped (map text names) (plan_leaves p) σ) n (length (cut_list (shape p)) - 1) (reverse list)) (sym size) (there.0 t)))),
-          (λ r. there.1 (subst (λ n. Way (plan_moves p) (stamped (map text names) (plan_leaves p) σ) n (length (cut_list (shape p)) - 1) (reverse list)) size (reading_is_way (shape p) (cut_list (shape p)) (plan_moves p) (laid_out p) (whole p) (plan_leaves p) (map text names) σ list r))),
-        )
+      pub checks_way : (b : Bool) → Decides b (Way x.moves.now (stamped (texts_of text x) x.leaves.now σ) (length stamps) (x.rows - 1) (reverse list)) → Checks (ground_over text p names) σ list lack (Ok b)
+      checks_way b d =
+          let there : Decides b (Way (plan_moves p) (stamped (map text names) (plan_leaves p) σ) (length stamps) (length (cut_list (shape p)) - 1) (reverse list)) = moved text p names stood x over (λ n ls ms ns xs. Decides b (Way ms (stamped (map text ns) ls σ) (length stamps) (n - 1) (reverse list))) d in
+          let size : length σ ≡ length stamps = length-map stamps text in
+          checks b (
+            (λ t. subst (Reads (ground_over text p names) σ) (reverse-reverse list) (way_is_reading (shape p) (cut_list (shape p)) (plan_moves p) (laid_out p) (whole p) (plan_leaves p) (map text names) σ (reverse list) (subst (λ n. Way (plan_moves p) (stamped (map text names) (plan_leaves p) σ) n (length (cut_list (shape p)) - 1) (reverse list)) (sym size) (there.0 t)))),
+            (λ r. there.1 (subst (λ n. Way (plan_moves p) (stamped (map text names) (plan_leaves p) σ) n (length (cut_list (shape p)) - 1) (reverse list)) size (reading_is_way (shape p) (cut_list (shape p)) (plan_moves p) (laid_out p) (whole p) (plan_leaves p) (map text names) σ list r))),
+          )

@@ -1,5 +1,6 @@
 -- A name that is looked up among the plan's names, and the stamps with it.
 use Rattle.std.proofs.Common.{◌≡◌, ℕ, ◌+◌, ◌<◌, ◌≤◌, Bool, true, ltb, List, [], ◌∷◌, ◌++◌, map, length, get_or, take, set, Some, None, Decides, sym, ap, ◌∙◌, subst, arith}
+use lib.ListN.{length-map}
 use Rattle.std.proofs.lemmas.Bool.{lt-ltb}
 use Rattle.text.specs.Bytes.{every}
 use Rattle.text.specs.Directory.{Text, Finds}
@@ -11,22 +12,19 @@ use Rattle.sheet.proofs.Answering.{room}
 use Rattle.sheet.proofs.Grounds.{name_number}
 use Rattle.sheet.proofs.Stamping.{every_stamped, standing_push, unknown, not_found, found_at}
 
-module _ {K : Type 0} (text : K → Text) (p : Plan) (names known : List K) (k : ℕ) (t : Text) (m a : ℕ) (e : None ≡ short (length names) m a) (is : k ≡ p.names) (kn : known ≡ take k names) where
+module _ {K : Type 0} (text : K → Text) (p : Plan) (names : List K) (k : ℕ) (t : Text) (m a : ℕ) (e : None ≡ short (length (map text names)) m a) (is : k ≡ p.names) where
   long : p.names ≤ length names
-  long = let h = room (length names) m a (sym e) in omega (arith, h.0, name_number p)
+  long = let h = room (length (map text names)) m a (sym e) in omega (arith, h.0, length-map names text, name_number p)
 
-  same : known ≡ take p.names names
-  same = kn ∙ ap (λ n. take n names) is
+  same : take k names ≡ take p.names names
+  same = ap (λ n. take n names) is
 
-  pub no_number : (σ : List Text) → Finds (map text known) t None → Follows (ground_over text p names) σ t → ⊥
+  pub no_number : (σ : List Text) → Finds (map text (take k names)) t None → Follows (ground_over text p names) σ t → ⊥
   no_number σ f = unknown p (map text names) σ t (not_found text names p.names t long (subst (λ x. Finds (map text x) t None) same f))
 
-  module _ (n : ℕ) (f : Finds (map text known) t (Some n)) where
+  module _ (n : ℕ) (f : Finds (map text (take k names)) t (Some n)) where
     pub number_is : (n < p.names) × (get_or (map text names) n [] ≡ t)
     number_is = found_at text names p.names n t long (subst (λ x. Finds (map text x) t (Some n)) same f)
-
-    pub number_small : n < 128
-    number_small = omega (arith, number_is.0, name_number p)
 
     module _ (stamps : List ℕ) (count : ℕ) (room_for : count < length stamps) where
       pub among_more : every (λ x. ltb x (length names)) (take count stamps) ≡ true → every (λ x. ltb x (length names)) (take (count + 1) (set stamps count n)) ≡ true

@@ -1,5 +1,5 @@
 -- What stamping and striking do to the stamps that stand, and when a stamp may follow.
-use Rattle.std.proofs.Common.{◌≡◌, ℕ, zero, suc, ◌+◌, ◌-◌, ◌<◌, ◌≤◌, Bool, true, ltb, List, [], ◌∷◌, ◌++◌, map, length, get_or, take, drop, set, IfSome, Some, None, Ok, Option, sym, refl, ap, ◌∙◌, subst, inl, inr, append_assoc, add-one, arith, length-append, take-append-drop, length-take-le, take-take, take-suc-set, ltb-true}
+use Rattle.std.proofs.Common.{◌≡◌, ℕ, zero, suc, ◌+◌, ◌-◌, ◌<◌, ◌≤◌, Bool, true, ltb, List, [], ◌∷◌, ◌++◌, map, length, get_or, take, drop, set, IfSome, Some, None, Option, sym, refl, ap, ◌∙◌, subst, inl, inr, append_assoc, add-one, arith, length-append, take-append-drop, length-take-le, take-take, take-suc-set, ltb-true}
 use mathlib.Core.List.{map-append}
 use lib.ListN.{length-map}
 use Rattle.std.specs.List.{AllByRecursion}
@@ -16,7 +16,7 @@ use Rattle.plan.specs.declared.plan.Plan.{Plan}
 use Rattle.meaning.proofs.Testing.{and_left, and_right, and_true}
 use Rattle.engine.specs.Fits.{fits_name, fits, standing}
 use Rattle.engine.specs.Answers.{fit_all, LogBegins, MayFollow}
-use Rattle.sheet.specs.Calls.{Ground, Begins, StandsThen, Strikes}
+use Rattle.sheet.specs.Calls.{Ground, Begins, StandsThen}
 use Rattle.engine.proofs.Fitted.{fit_length}
 use Rattle.sheet.proofs.Grounds.{shape, plan_leaves, limits, named, permitted_short}
 
@@ -113,10 +113,6 @@ pub still_begun : (g : Ground) (σ : List Text) (t : Text) (lack : Option ℕ) (
 still_begun g σ t (Some n) τ is b = subst (Begins g) (sym is) b
 still_begun g σ t None τ (inl (f, is)) b = subst (Begins g) (sym is) f
 still_begun g σ t None τ (inr (f, is)) b = subst (Begins g) (sym is) b
-
-pub strikes_some : (σ : List Text) → 0 < length σ → Strikes σ (Ok tt)
-strikes_some [] h = absurd (omega arith)
-strikes_some (t ∷ σ) h = refl
 
 -- the stamps with one more are below the bound too
 pub every_stamped : (test : ℕ → Bool) (stamps : List ℕ) (count n : ℕ) → count < length stamps → every test (take count stamps) ≡ true → test n ≡ true → every test (take (count + 1) (set stamps count n)) ≡ true

@@ -1,47 +1,36 @@
-ghost use Rattle.std.specs.Prelude.{◌≡◌, ◌-◌, ◌<◌, map, reverse, length, IfSome, Decides};
-ghost use Rattle.std.specs.List.{AllByRecursion};
+ghost use Rattle.std.specs.Prelude.{◌≡◌, ◌-◌, map, reverse, length, Decides};
 ghost use Rattle.sheet.specs.Calls.{Checks, short as lack};
 ghost use Rattle.engine.specs.Fits.{fits as fits_number, stamped};
+ghost use Rattle.engine.specs.Searches.{texts_of};
 ghost use Rattle.sheet.specs.Views.{ground_of};
-ghost use Rattle.engine.specs.Ways.{Searchable, Way};
+ghost use Rattle.engine.specs.Ways.{Way};
 
-use super::calls::short;
 use super::page::Sheet;
 use super::refusal::Refusal;
-use engine::{Scale, first_rows, fits, holds_row, rows_after};
-use plan::{Leaf, RowMove};
+use engine::{Scale, Search, holds_row};
 use text::Kind;
 
+// kept: behind `get` and `is_some_and`, what `fits` ensures of the leaf is out of the proof's reach.
 // Whether a stamp fits the leaf with this number, if there is one.
-fn fits_leaf<K: Kind>(leaves: &[Leaf], names: &[K], l: usize, stamp: &K) -> bool
-    requires { AllByRecursion (λ l. IfSome l.name (λ n. n < length names.now)) leaves.now }
-    ensures { result ≡ fits_number (map K.text names.now) leaves.now (K.text stamp.now) l }
+fn fits_leaf<K: Kind>(search: &Search<K>, l: usize, stamp: &K) -> bool
+    ensures { result ≡ fits_number (texts_of K.text search.now) search.now.leaves.now (K.text stamp.now) l }
 {
-    l < leaves.len() && fits(&leaves[l], names, stamp)
+    l < search.leaves.len() && search.fits(&search.leaves[l], stamp)
 }
 
 // Whether a way to the last row reads just the leaves of a list, each of which fits its stamp.
-fn is_way<K: Kind>(
-    moves: &[RowMove],
-    leaves: &[Leaf],
-    names: &[K],
-    stamps: &[K],
-    list: &[u16],
-    rows: usize,
-) -> bool
-    requires ready { Searchable rows (length names.now) leaves.now moves.now }
-    requires even { length list.now ≡ length stamps.now }
-    ensures { Decides result (Way moves.now (stamped (map K.text names.now) leaves.now (map K.text stamps.now)) (length stamps.now) (rows - 1) (reverse list.now)) }
+fn is_way<K: Kind>(search: &Search<K>, stamps: &[K], list: &[u16]) -> bool
+    requires { length list.now ≡ length stamps.now }
+    ensures { Decides result (Way search.now.moves.now (stamped (texts_of K.text search.now) search.now.leaves.now (map K.text stamps.now)) (length stamps.now) (search.now.rows - 1) (reverse list.now)) }
 {
-    let mut here = first_rows(moves, rows);
-    for i in 0..stamps.len() {
-        let l = list[i] as usize;
-        if !fits_leaf(leaves, names, l, &stamps[i]) {
+    let mut here = search.first_rows();
+    for (stamp, l) in stamps.iter().zip(list) {
+        if !fits_leaf(search, *l as usize, stamp) {
             return false;
         }
-        here = rows_after(moves, rows, &here, l as u8);
+        here = search.rows_after(&here, *l as u8);
     }
-    holds_row(&here, 0, rows - 1)
+    holds_row(&here, 0, search.rows - 1)
 }
 
 impl<'a, K: Kind> Sheet<'a, K> {
@@ -55,15 +44,11 @@ impl<'a, K: Kind> Sheet<'a, K> {
     ) -> Result<bool, Refusal>
         ensures { Checks (ground_of K.text self.now) (map K.text stamps.now) leaves.now (lack (length (ground_of K.text self.now).texts) (length numbers.old) (length amounts.old)) result }
     {
-        if let Some(n) = short(self.names.len(), numbers.len(), amounts.len()) {
-            return Err(Refusal::Short(n));
-        }
-        let plan = self.plan;
-        let known = plan.leaves();
-        if leaves.len() != stamps.len() || leaves.len() > known.len() {
+        self.room(numbers, amounts)?;
+        let search = self.search(self.standing());
+        if leaves.len() != stamps.len() || leaves.len() > search.leaves.len() {
             return Ok(false);
         }
-        let yes = is_way(plan.moves(), known, self.names, stamps, leaves, plan.rows());
-        Ok(yes)
+        Ok(is_way(&search, stamps, leaves))
     }
 }

@@ -3,15 +3,11 @@ ghost use Rattle.sheet.specs.Examples.{AllExamples};
 ghost use Rattle.sheet.specs.Mistakes.{KeepingIsMistaken};
 
 /// All worked examples hold: those of plans, and those of readings, amounts and distances.
-pub fn all_examples() -> u8
+pub fn all_examples()
     ensures { AllExamples }
-{
-    0
-}
+{}
 
 /// Where two amounts meet, keeping the first is a mistake: of `+(a:1@2,a:-4@2)`, stamped a, it loses -4.
-pub fn keeping_is_mistaken() -> u8
+pub fn keeping_is_mistaken()
     ensures { KeepingIsMistaken }
-{
-    0
-}
+{}

@@ -6,6 +6,7 @@ mod check;
 mod check_laws;
 mod clerk;
 mod example_laws;
+mod over;
 mod page;
 mod player;
 mod putting;
@@ -22,6 +23,7 @@ pub use engine::{
 pub use example_laws::{all_examples, keeping_is_mistaken};
 pub use page::Sheet;
 pub use player::{Player, play};
+pub use putting::put;
 pub use refusal::Refusal;
-pub use service::{Stop, put, serve};
+pub use service::serve;
 pub use words::{Answer, Call, Lengths, Listing, Turn};

@@ -1,8 +1,7 @@
-//! One call put to a sheet, with the beginnings of the buffers that it is lent.
-ghost use Rattle.std.specs.Prelude.{◌≡◌, ◌≤◌, length, take};
-ghost use Rattle.sheet.specs.declared.words.Call.TheVariants.{Stamp, Strike, Next, Distance, Amount, Reading};
-ghost use Rattle.sheet.specs.Calls.{GivesFirst, ListsNext, short_list as lack_list};
-ghost use Rattle.sheet.specs.Runs.{desk, listing, Right, After};
+//! One call put to a sheet, with the beginnings of the buffers that there are.
+ghost use Rattle.std.specs.Prelude.{◌≡◌, ◌≤◌, length, IfOk};
+ghost use Rattle.sheet.specs.Calls.{listed};
+ghost use Rattle.sheet.specs.Runs.{desk, listing, lengths_of, cut_down, fitted, Right, After};
 ghost use Rattle.sheet.specs.Views.{ground_of, stands_on};
 
 use super::page::Sheet;
@@ -11,167 +10,95 @@ use super::words::{Answer, Call, Lengths, Listing, Turn};
 use engine::Scale;
 use text::Kind;
 
-// The first n numbers of a buffer.
-fn copied(buffer: &[u16], n: usize) -> Listing
-    requires { (n ≤ 128) × (n ≤ length buffer.now) }
-    ensures { take result.count result.numbers ≡ take n buffer.now }
+// The lengths that a call asks for; a strike is lent nothing.
+fn lengths<K>(call: &Call<K>) -> Lengths
+    ensures { result ≡ lengths_of call.now }
 {
+    match call {
+        Call::Strike => Lengths {
+            list: 0,
+            numbers: 0,
+            amounts: 0,
+        },
+        Call::Stamp(_, x)
+        | Call::Next(x)
+        | Call::Distance(x)
+        | Call::Amount(x)
+        | Call::Reading(x) => *x,
+    }
+}
+
+// Lengths no longer than what there is.
+fn cut_down(x: Lengths, list: usize, numbers: usize, amounts: usize) -> Lengths
+    ensures { result ≡ cut_down list numbers amounts x }
+{
+    Lengths {
+        list: x.list.min(list),
+        numbers: x.numbers.min(numbers),
+        amounts: x.amounts.min(amounts),
+    }
+}
+
+// The call with lengths no longer than what there is.
+fn fitted<K>(call: Call<K>, list: usize, numbers: usize, amounts: usize) -> Call<K>
+    ensures fitted { result ≡ fitted list numbers amounts call }
+    ensures list { (lengths_of result).list ≤ list }
+    ensures numbers { (lengths_of result).numbers ≤ numbers }
+    ensures amounts { (lengths_of result).amounts ≤ amounts }
+{
+    match call {
+        Call::Stamp(name, x) => Call::Stamp(name, cut_down(x, list, numbers, amounts)),
+        Call::Strike => Call::Strike,
+        Call::Next(x) => Call::Next(cut_down(x, list, numbers, amounts)),
+        Call::Distance(x) => Call::Distance(cut_down(x, list, numbers, amounts)),
+        Call::Amount(x) => Call::Amount(cut_down(x, list, numbers, amounts)),
+        Call::Reading(x) => Call::Reading(cut_down(x, list, numbers, amounts)),
+    }
+}
+
+// What a call found and wrote to the front of a buffer, in an array of its own.
+fn copied(found: Result<usize, Refusal>, buffer: &[u16]) -> Result<Listing, Refusal>
+    requires { IfOk found (λ n. (n ≤ 128) × (n ≤ length buffer.now)) }
+    ensures { listing result ≡ listed found buffer.now }
+{
+    let count = found?;
     let mut numbers = [0; 128];
-    for i in 0..n {
-        numbers[i] = buffer[i];
-    }
-    Listing { count: n, numbers }
+    numbers[..count].copy_from_slice(&buffer[..count]);
+    Ok(Listing { count, numbers })
 }
 
-// What `next` lists, in an array of its own.
-fn list_next<K: Kind, S: Scale>(
-    sheet: &Sheet<K>,
-    list: &mut [u16],
-    numbers: &mut [u16],
-    amounts: &mut [S],
-) -> Result<Listing, Refusal>
-    ensures { ListsNext (ground_of K.text sheet.now) (stands_on K.text sheet.now) (lack_list (length (ground_of K.text sheet.now).texts) (length list.old) (length numbers.old) (length amounts.old)) (listing result) }
-{
-    match sheet.next(list, numbers, amounts) {
-        Ok(n) => Ok(copied(list, n)),
-        Err(e) => Err(e),
-    }
-}
-
-// What `reading` gives, in an array of its own.
-fn list_reading<K: Kind, S: Scale>(
-    sheet: &Sheet<K>,
-    list: &mut [u16],
-    numbers: &mut [u16],
-    amounts: &mut [S],
-) -> Result<Listing, Refusal>
-    ensures { GivesFirst (ground_of K.text sheet.now) (stands_on K.text sheet.now) (lack_list (length (ground_of K.text sheet.now).texts) (length list.old) (length numbers.old) (length amounts.old)) (listing result) }
-{
-    match sheet.reading(list, numbers, amounts) {
-        Ok(n) => Ok(copied(list, n)),
-        Err(e) => Err(e),
-    }
-}
-
-/// Puts a stamp.
-pub fn put_stamp<K: Kind, S: Scale>(
+/// Puts one call to the sheet, with buffers no longer than there are, and says what was called and answered.
+pub fn put<K: Kind, S: Scale>(
     sheet: &mut Sheet<K>,
-    name: K,
-    lent: Lengths,
-    numbers: &mut [u16],
-    amounts: &mut [S],
-) -> Turn<K, S>
-    requires { (lent.numbers ≤ length numbers.old) × (lent.amounts ≤ length amounts.old) }
-    ensures plan { sheet.new.plan ≡ sheet.old.plan }
-    ensures names { sheet.new.names ≡ sheet.old.names }
-    ensures called { result.call ≡ Stamp name lent }
-    ensures right { Right (desk K.text S.value S.join S.start S.extend (ground_of K.text sheet.old)) (stands_on K.text sheet.old) result.call result.answer }
-    ensures after { After (desk K.text S.value S.join S.start S.extend (ground_of K.text sheet.old)) (stands_on K.text sheet.old) result.call (stands_on K.text sheet.new) }
-{
-    let n = lent.numbers;
-    let a = lent.amounts;
-    let answer = Answer::Stamped(sheet.stamp(name, &mut numbers[0..n], &mut amounts[0..a]));
-    let call = Call::Stamp(name, lent);
-    Turn { call, answer }
-}
-
-/// Puts a strike, which is lent nothing.
-pub fn put_strike<K: Kind, S: Scale>(sheet: &mut Sheet<K>) -> Turn<K, S>
-    ensures plan { sheet.new.plan ≡ sheet.old.plan }
-    ensures names { sheet.new.names ≡ sheet.old.names }
-    ensures called { result.call ≡ Strike }
-    ensures right { Right (desk K.text S.value S.join S.start S.extend (ground_of K.text sheet.old)) (stands_on K.text sheet.old) result.call result.answer }
-    ensures after { After (desk K.text S.value S.join S.start S.extend (ground_of K.text sheet.old)) (stands_on K.text sheet.old) result.call (stands_on K.text sheet.new) }
-{
-    let answer = Answer::Struck(sheet.strike());
-    let call = Call::Strike;
-    Turn { call, answer }
-}
-
-/// Asks for the names that may follow.
-pub fn put_next<K: Kind, S: Scale>(
-    sheet: &Sheet<K>,
-    lent: Lengths,
+    call: Call<K>,
     list: &mut [u16],
     numbers: &mut [u16],
     amounts: &mut [S],
 ) -> Turn<K, S>
-    requires { (lent.list ≤ length list.old) × ((lent.numbers ≤ length numbers.old) × (lent.amounts ≤ length amounts.old)) }
-    ensures called { result.call ≡ Next lent }
-    ensures right { Right (desk K.text S.value S.join S.start S.extend (ground_of K.text sheet.now)) (stands_on K.text sheet.now) result.call result.answer }
+    ensures plan { sheet.new.plan ≡ sheet.old.plan }
+    ensures names { sheet.new.names ≡ sheet.old.names }
+    ensures called { result.call ≡ fitted (length list.old) (length numbers.old) (length amounts.old) call }
+    ensures right { Right (desk K.text S.value S.join S.start S.extend (ground_of K.text sheet.old)) (stands_on K.text sheet.old) result.call result.answer }
+    ensures after { After (desk K.text S.value S.join S.start S.extend (ground_of K.text sheet.old)) (stands_on K.text sheet.old) result.call (stands_on K.text sheet.new) }
 {
-    let l = lent.list;
-    let n = lent.numbers;
-    let a = lent.amounts;
-    let listed = list_next(
-        sheet,
-        &mut list[0..l],
-        &mut numbers[0..n],
-        &mut amounts[0..a],
-    );
-    let answer = Answer::Listed(listed);
-    let call = Call::Next(lent);
-    Turn { call, answer }
-}
-
-/// Asks for the distance.
-pub fn put_distance<K: Kind, S: Scale>(
-    sheet: &Sheet<K>,
-    lent: Lengths,
-    numbers: &mut [u16],
-    amounts: &mut [S],
-) -> Turn<K, S>
-    requires { (lent.numbers ≤ length numbers.old) × (lent.amounts ≤ length amounts.old) }
-    ensures called { result.call ≡ Distance lent }
-    ensures right { Right (desk K.text S.value S.join S.start S.extend (ground_of K.text sheet.now)) (stands_on K.text sheet.now) result.call result.answer }
-{
-    let n = lent.numbers;
-    let a = lent.amounts;
-    let answer = Answer::Measured(sheet.distance(&mut numbers[0..n], &mut amounts[0..a]));
-    let call = Call::Distance(lent);
-    Turn { call, answer }
-}
-
-/// Asks for the amount.
-pub fn put_amount<K: Kind, S: Scale>(
-    sheet: &Sheet<K>,
-    lent: Lengths,
-    numbers: &mut [u16],
-    amounts: &mut [S],
-) -> Turn<K, S>
-    requires { (lent.numbers ≤ length numbers.old) × (lent.amounts ≤ length amounts.old) }
-    ensures called { result.call ≡ Amount lent }
-    ensures right { Right (desk K.text S.value S.join S.start S.extend (ground_of K.text sheet.now)) (stands_on K.text sheet.now) result.call result.answer }
-{
-    let n = lent.numbers;
-    let a = lent.amounts;
-    let answer = Answer::Weighed(sheet.amount(&mut numbers[0..n], &mut amounts[0..a]));
-    let call = Call::Amount(lent);
-    Turn { call, answer }
-}
-
-/// Asks for the first reading.
-pub fn put_reading<K: Kind, S: Scale>(
-    sheet: &Sheet<K>,
-    lent: Lengths,
-    list: &mut [u16],
-    numbers: &mut [u16],
-    amounts: &mut [S],
-) -> Turn<K, S>
-    requires { (lent.list ≤ length list.old) × ((lent.numbers ≤ length numbers.old) × (lent.amounts ≤ length amounts.old)) }
-    ensures called { result.call ≡ Reading lent }
-    ensures right { Right (desk K.text S.value S.join S.start S.extend (ground_of K.text sheet.now)) (stands_on K.text sheet.now) result.call result.answer }
-{
-    let l = lent.list;
-    let n = lent.numbers;
-    let a = lent.amounts;
-    let listed = list_reading(
-        sheet,
-        &mut list[0..l],
-        &mut numbers[0..n],
-        &mut amounts[0..a],
-    );
-    let answer = Answer::Read(listed);
-    let call = Call::Reading(lent);
+    let call = fitted(call, list.len(), numbers.len(), amounts.len());
+    let lent = lengths(&call);
+    let list = &mut list[..lent.list];
+    let numbers = &mut numbers[..lent.numbers];
+    let amounts = &mut amounts[..lent.amounts];
+    let answer = match &call {
+        Call::Stamp(name, _) => Answer::Stamped(sheet.stamp(*name, numbers, amounts)),
+        Call::Strike => Answer::Struck(sheet.strike()),
+        Call::Next(_) => {
+            let found = sheet.next(list, numbers, amounts);
+            Answer::Listed(copied(found, list))
+        }
+        Call::Distance(_) => Answer::Measured(sheet.distance(numbers, amounts)),
+        Call::Amount(_) => Answer::Weighed(sheet.amount(numbers, amounts)),
+        Call::Reading(_) => {
+            let found = sheet.reading(list, numbers, amounts);
+            Answer::Read(copied(found, list))
+        }
+    };
     Turn { call, answer }
 }

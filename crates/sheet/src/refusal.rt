@@ -2,7 +2,7 @@ ghost use Rattle.std.specs.Prelude.{◌≡◌};
 ghost use Rattle.sheet.specs.Refusals.{code as numbered};
 
 /// Why a call on a sheet is sent back.
-#[derive(Clone, Copy, PartialEq, Eq)]
+#[derive(Clone, Copy, Debug, PartialEq, Eq)]
 pub enum Refusal {
     /// Something handed over is shorter than this length.
     Short(usize),
@@ -15,6 +15,7 @@ pub enum Refusal {
 }
 
 impl Refusal {
+    // kept: these numbers are printed.
     /// The number of the refusal, and the length that goes with it.
     pub fn code(&self) -> (usize, usize)
         ensures { result ≡ numbered self.now }

@@ -5,7 +5,7 @@ use super::refusal::Refusal;
 
 /// The lengths of what a call is lent: a list for results, and scratch numbers and amounts. Only `next` and `reading` use a
 /// list.
-#[derive(Clone, Copy)]
+#[derive(Clone, Copy, Debug, PartialEq, Eq)]
 pub struct Lengths {
     pub list: usize,
     pub numbers: usize,
@@ -13,7 +13,7 @@ pub struct Lengths {
 }
 
 /// A call on a sheet.
-#[derive(Clone, Copy)]
+#[derive(Clone, Copy, Debug, PartialEq, Eq)]
 pub enum Call<K> {
     Stamp(K, Lengths),
     Strike,
@@ -26,6 +26,7 @@ pub enum Call<K> {
 /// At most 128 numbers: the first `count` of `numbers`.
 #[derive(Clone, Copy)]
 pub struct Listing {
+    // kept: no `ArrayVec` (no heap either): the definition of what a listing holds reads the count and the array.
     pub count: usize,
     pub numbers: [u16; 128],
     ghost few: { count ≤ 128 },
@@ -36,10 +37,11 @@ impl Listing {
     pub fn list(&self) -> &[u16]
         ensures { result.now ≡ take self.now.count self.now.numbers }
     {
-        &self.numbers[0..self.count]
+        &self.numbers[..self.count]
     }
 }
 
+// kept: `Opened` is what the definitions of lawful runs read; an `Option` around the answer would change them.
 /// What a call was answered; `Opened` before the first.
 #[derive(Clone, Copy)]
 pub enum Answer<S> {

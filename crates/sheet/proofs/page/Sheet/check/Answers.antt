@@ -1,32 +1,25 @@
-use Rattle.std.proofs.Common.{[], length, sym, refl, inl, inr}
-use Rattle.sheet.proofs.Answering.{room, ready_at}
-use Rattle.sheet.proofs.Checking.{checks_short, checks_uneven, checks_long, checks_way}
+use Rattle.std.proofs.Common.{length, take, subst}
+use Rattle.sheet.specs.Views.{GoesOver}
+use Rattle.sheet.proofs.Answering.{enough_there}
+use Rattle.sheet.proofs.Checking.{checks_uneven, checks_long, checks_way}
+use Rattle.sheet.proofs.page.Sheet.check.Goals.{then-leaves-stamps-via-then-leaves-stamps, then-leaves-stamps-via-else-leaves-stamps+then-leaves-search}
 use Rattle.sheet.proofs.page.Sheet.check.Goals as goal
-
-pub returns-in-Some : goal.returns-in-Some
-returns-in-Some g c =
-    let s = c.args.self.now in
-    checks_short g.K.Kind.text s.plan.now s.names.now c.args.stamps.now c.args.leaves.now (length c.args.numbers.now) (length c.args.amounts.now) c.in-Some.n c.in-Some.ensures
-
-pub is_way-yes-requires : goal.is_way-yes-requires
-is_way-yes-requires g c =
-    let s = c.args.self.now in
-    let h = room (length s.names.now) (length c.args.numbers.now) (length c.args.amounts.now) (sym c.in_default.ensures) in
-    record {
-      ready = ready_at g.K.Kind.text s.plan.now s.names.now [] c.rows.result c.leaves-known.result.now c.moves.result.now [] c.rows.ensures c.leaves-known.ensures c.moves.ensures refl (length s.names.now) h.0;
-      even = c.if-leaves-stamps.false;
-    }
 
 pub returns : goal.returns
 returns g c =
     let s = c.args.self.now in
-    checks_way g.K.Kind.text s.plan.now s.names.now c.args.stamps.now c.args.leaves.now (length c.args.numbers.now) (length c.args.amounts.now) c.in_default.ensures
-    c.rows.result c.leaves-known.result.now c.moves.result.now c.rows.ensures c.leaves-known.ensures c.moves.ensures c.is_way-yes.result c.is_way-yes.ensures
+    let stamps = take s.count s.stamps in
+    let over = subst (λ xs. GoesOver s.plan.now s.names.now xs c.search-search.result) c.standing.ensures c.search-search.ensures in
+    let none = enough_there _ tt c.in_ok-room.ensures in
+    checks_way g.K.Kind.text s.plan.now s.names.now c.args.stamps.now c.args.leaves.now (length c.args.numbers.now) (length c.args.amounts.now) none c.search-search.result stamps over c.is_way.result c.is_way.ensures
 
 pub returns-then-leaves-stamps : goal.returns-then-leaves-stamps
 returns-then-leaves-stamps g c =
     let s = c.args.self.now in
-    elim c.then-leaves-stamps.either [
-      | inl uneven ↦ checks_uneven g.K.Kind.text s.plan.now s.names.now c.args.stamps.now c.args.leaves.now (length c.args.numbers.now) (length c.args.amounts.now) c.in_default.ensures uneven
-      | inr long ↦ checks_long g.K.Kind.text s.plan.now s.names.now c.args.stamps.now c.args.leaves.now (length c.args.numbers.now) (length c.args.amounts.now) c.in_default.ensures c.leaves-known.result.now c.leaves-known.ensures long.1
+    let stamps = take s.count s.stamps in
+    let over = subst (λ xs. GoesOver s.plan.now s.names.now xs c.search-search.result) c.standing.ensures c.search-search.ensures in
+    let none = enough_there _ tt c.in_ok-room.ensures in
+    elim c.then-leaves-stamps.branch [
+      | then-leaves-stamps-via-then-leaves-stamps w ↦ checks_uneven g.K.Kind.text s.plan.now s.names.now c.args.stamps.now c.args.leaves.now (length c.args.numbers.now) (length c.args.amounts.now) none w.if-leaves-stamps.true
+      | then-leaves-stamps-via-else-leaves-stamps+then-leaves-search w ↦ checks_long g.K.Kind.text s.plan.now s.names.now c.args.stamps.now c.args.leaves.now (length c.args.numbers.now) (length c.args.amounts.now) none c.search-search.result stamps over w.if-leaves-search.true
     ]
