@@ -2,61 +2,39 @@
 //! many moves it has, and a sum over its moves. The sums do not depend on the order of rows and moves.
 #![tactic(auto)]
 
-ghost use Rattle.std.specs.Prelude.{◌≤◌, length};
-
 use plan::{Plan, RowMove, parse};
+use show::{Lines, names_of};
 use std::io;
 use std::io::Read;
-use text::{Kind, Word};
+use text::Word;
 
-// Where a line ends.
-fn line_end(bytes: &[u8], from: usize) -> usize
-    requires { from ≤ length bytes.now }
-    ensures forward { from ≤ result }
-    ensures within { result ≤ length bytes.now }
-{
-    let mut end = from;
-    while end < bytes.len() && bytes[end] != b'\n' {
-        end += 1;
-    }
-    end
-}
-
-// A number for a row: its eight columns as digits.
-fn row_sum(buffer: &[u16], row: usize) -> u64 {
-    let mut sum: u64 = 7;
-    for column in 0..8usize {
-        let at = row.saturating_mul(8).saturating_add(column);
-        let vertex = buffer.get(at).copied().unwrap_or(0);
-        sum = sum
-            .wrapping_mul(65599)
-            .wrapping_add(u64::from(vertex))
-            .wrapping_add(1);
-    }
-    sum
+// A number for a row: its columns as digits.
+fn row_sum(row: &[u16]) -> u64 {
+    row.iter().fold(7u64, |sum, vertex| {
+        sum.wrapping_mul(65599)
+            .wrapping_add(u64::from(*vertex))
+            .wrapping_add(1)
+    })
 }
 
 // A number for a move: those of its rows, and the leaf that it reads.
 fn move_sum(sums: &[u64], m: &RowMove) -> u64 {
     let from = sums.get(m.from as usize).copied().unwrap_or(0);
     let to = sums.get(m.to as usize).copied().unwrap_or(0);
-    let leaf = match m.reads {
-        Some(leaf) => u64::from(leaf) + 1,
-        None => 0,
-    };
+    let leaf = m.reads.map_or(0, |leaf| u64::from(leaf) + 1);
     from.wrapping_mul(31)
         .wrapping_add(to.wrapping_mul(37))
         .wrapping_add(leaf.wrapping_mul(1000003))
 }
 
 fn show(rt: &HostRuntime, plan: &Plan, buffer: &mut [u16]) -> io::Result<()> {
-    let Ok(rows) = plan.laid(buffer) else {
+    let Ok(rows) = plan.lay(buffer) else {
         return println!(rt; "short");
     };
     let mut sums = Vec::new(rt.alloc());
     let mut all: u64 = 0;
-    for row in 0..rows {
-        let sum = row_sum(buffer, row);
+    for row in buffer.chunks(8).take(rows) {
+        let sum = row_sum(row);
         all = all.wrapping_add(sum);
         sums.push(sum)?;
     }
@@ -69,11 +47,8 @@ fn show(rt: &HostRuntime, plan: &Plan, buffer: &mut [u16]) -> io::Result<()> {
 }
 
 fn answer(rt: &HostRuntime, line: &[u8], buffer: &mut [u16]) -> io::Result<()> {
-    let Some(name) = Word::of_text(b"a") else {
-        return Ok(());
-    };
-    let mut names = [name; 128];
-    match parse(rt.alloc(), line, &mut names) {
+    let mut names = names_of::<Word>(rt.alloc(), b"a")?;
+    match parse(rt.alloc(), line, names.as_mut_slice()) {
         Ok(plan) => show(rt, &plan, buffer),
         Err(_) => println!(rt; "refused"),
     }
@@ -83,12 +58,8 @@ fn main(rt: HostRuntime) -> io::Result<()> {
     let mut input = Vec::new(rt.alloc());
     rt.stdin().read_to_end(&mut input)?;
     let mut buffer = vec![in rt.alloc(); 0u16; 32768]?;
-    let bytes = input.as_slice();
-    let mut at = 0;
-    while at < bytes.len() {
-        let end = line_end(bytes, at);
-        answer(&rt, &bytes[at..end], buffer.as_mut_slice())?;
-        at = end + 1;
+    for line in Lines::new(input.as_slice(), 0) {
+        answer(&rt, line.text, buffer.as_mut_slice())?;
     }
     Ok(())
 }

@@ -2,10 +2,11 @@
 //! or why it is refused.
 #![tactic(auto)]
 
-use plan::{Item, Leaf, Line, Plan, PlanError, Sort, parse};
+use plan::{Item, Leaf, Line, Plan, Sort, parse};
+use show::{names_of, print_name, show_counts, show_error};
 use std::io;
-use std::io::Read;
-use text::{Kind, Part, Word, parts};
+use std::io::{Read, Write};
+use text::{Part, Word, parts};
 
 // One line for a part: its place, what it is, and its bytes.
 fn show_part(rt: &HostRuntime, part: &Part) -> io::Result<()> {
@@ -13,7 +14,7 @@ fn show_part(rt: &HostRuntime, part: &Part) -> io::Result<()> {
         Part::Name { at, run } => show_run(rt, *at, "name", run),
         Part::Digits { at, run } => show_run(rt, *at, "number", run),
         Part::Mark { at, sign } => {
-            let c = sign.byte() as char;
+            let c = char::from(u8::from(*sign));
             println!(rt; "{at} sign {c}")
         }
         Part::Other { at, byte } => println!(rt; "{at} byte {byte}"),
@@ -22,40 +23,23 @@ fn show_part(rt: &HostRuntime, part: &Part) -> io::Result<()> {
 }
 
 fn show_run(rt: &HostRuntime, at: usize, what: &str, run: &[u8]) -> io::Result<()> {
-    match std::str::from_utf8(run) {
-        Ok(text) => println!(rt; "{at} {what} {text}"),
-        Err(_) => println!(rt; "{at} {what}"),
-    }
+    print!(rt; "{at} {what} ")?;
+    rt.stdout().write_all(run)?;
+    println!(rt; "")
 }
 
 fn show_parts(rt: &HostRuntime, text: &[u8]) -> io::Result<()> {
-    let list = parts(rt.alloc(), text)?;
-    for part in list.iter() {
+    for part in &parts(rt.alloc(), text)? {
         show_part(rt, part)?;
     }
     let end = text.len();
     println!(rt; "{end} end")
 }
 
-// A name's text.
-fn print_word(rt: &HostRuntime, word: &Word) -> io::Result<()> {
-    let mut buffer = [0; 12];
-    if let Some(n) = word.write(&mut buffer) {
-        if n <= buffer.len() {
-            if let Ok(text) = std::str::from_utf8(&buffer[0..n]) {
-                print!(rt; "{text}")?;
-            }
-        }
-    }
-    Ok(())
-}
-
 // The name of a leaf and its marks.
 fn print_leaf(rt: &HostRuntime, leaf: &Leaf, names: &[Word]) -> io::Result<()> {
-    if let Some(number) = leaf.name {
-        if let Some(word) = names.get(number as usize) {
-            print_word(rt, word)?;
-        }
+    if let Some(word) = leaf.name.and_then(|number| names.get(number as usize)) {
+        print_name(rt, word)?;
     }
     let correction = leaf.marks.correction;
     if correction != 0 {
@@ -95,12 +79,7 @@ fn show_item(
 
 fn show_plan(rt: &HostRuntime, plan: &Plan, names: &[Word]) -> io::Result<()> {
     let lines = plan.outline(rt.alloc())?;
-    let items = lines.len();
-    let size = plan.size();
-    let vertices = items.saturating_mul(2);
-    let width = size.width();
-    let cuts = size.cuts();
-    println!(rt; "plan {items} {vertices} {width} {cuts}")?;
+    show_counts(rt, &plan.counts())?;
     for (number, line) in lines.iter().enumerate() {
         show_item(rt, number, line, plan.leaves(), names)?;
     }
@@ -108,33 +87,25 @@ fn show_plan(rt: &HostRuntime, plan: &Plan, names: &[Word]) -> io::Result<()> {
     println!(rt; "names {count}")?;
     for (number, word) in names.iter().take(count).enumerate() {
         print!(rt; "{number} ")?;
-        print_word(rt, word)?;
+        print_name(rt, word)?;
         println!(rt; "")?;
     }
     Ok(())
 }
 
 fn read(rt: &HostRuntime, text: &[u8]) -> io::Result<()> {
-    let Some(word) = Word::of_text(b"a") else {
-        return Ok(());
-    };
-    let mut names = [word; 128];
-    match parse(rt.alloc(), text, &mut names) {
-        Ok(plan) => show_plan(rt, &plan, &names),
-        Err(PlanError::Refused(refusal)) => {
-            let (number, place) = refusal.number_and_place();
-            println!(rt; "refused {number} {place}")
-        }
-        Err(PlanError::Memory) => println!(rt; "no memory"),
+    let mut names = names_of(rt.alloc(), b"a")?;
+    match parse(rt.alloc(), text, names.as_mut_slice()) {
+        Ok(plan) => show_plan(rt, &plan, names.as_slice()),
+        Err(error) => show_error(rt, error),
     }
 }
 
 fn main(rt: HostRuntime) -> io::Result<()> {
-    let mut text = Vec::new(rt.alloc());
-    rt.stdin().read_to_end(&mut text)?;
-    if text.last().copied() == Some(b'\n') {
-        let _ = text.pop();
-    }
-    show_parts(&rt, text.as_slice())?;
-    read(&rt, text.as_slice())
+    let mut input = Vec::new(rt.alloc());
+    rt.stdin().read_to_end(&mut input)?;
+    let text = input.as_slice();
+    let text = text.strip_suffix(b"\n").unwrap_or(text);
+    show_parts(&rt, text)?;
+    read(&rt, text)
 }

@@ -2,13 +2,16 @@
 //! what the gate program for that kind prints of it.
 #![tactic(auto)]
 
-ghost use Rattle.std.specs.Prelude.{◌<◌, ◌≤◌, length, IfSome};
+ghost use Rattle.std.specs.Prelude.{length};
+ghost use Rattle.std.specs.Iterator.{at_most};
 
-use load::{next_line, print_file};
+use load::next_line;
+use show::judge_file;
 use std::io;
 use std::io::{Read, Write};
-use text::{Badge, Kind, Word, number};
+use text::{Badge, Word, number};
 
+// kept: the input says which kind comes next, and a closure for each kind would only be picked by the same words
 // The names of a load file.
 #[derive(Clone, Copy)]
 enum Names {
@@ -16,78 +19,41 @@ enum Names {
     Badges,
 }
 
-// A load file of the input, and where the next one's line begins.
+// The load files of an input, one after another.
 #[derive(Clone, Copy)]
-struct Block<'a> {
-    names: Names,
-    file: &'a [u8],
-    next: usize,
+struct Files<'a> {
+    rest: &'a [u8],
 }
 
-// The length that a line says behind so many bytes.
-fn length_behind(line: &[u8], skip: usize) -> Option<usize> {
-    if skip > line.len() {
-        return None;
+impl<'a> Iterator for Files<'a> {
+    type Item = (Names, &'a [u8]);
+
+    ghost remaining = { λ s. at_most (length s.rest.now) };
+
+    fn next(&mut self) -> Option<(Names, &'a [u8])> {
+        let line = next_line(self.rest, 0)?;
+        let (names, digits) = match line.text {
+            [b'b', ..] => (Names::Badges, line.text.get(7..)?),
+            _ => (Names::Words, line.text.get(6..)?),
+        };
+        let length = number(digits, 0, 65535)? as usize;
+        let (file, rest) = self.rest[line.next..].split_at_checked(length)?;
+        self.rest = rest;
+        Some((names, file))
     }
-    let n = number(&line[skip..], 0, 65535)?;
-    Some(n as usize)
-}
-
-// The load file whose line begins at a place.
-fn block_at(input: &[u8], at: usize) -> Option<Block<'_>>
-    ensures { IfSome result (λ b. (at < b.next) × (b.next ≤ length input.now)) }
-{
-    let line = next_line(input, at)?;
-    let names = if line.text.first().copied() == Some(b'b') {
-        Names::Badges
-    } else {
-        Names::Words
-    };
-    let length = match names {
-        Names::Words => length_behind(line.text, 6)?,
-        Names::Badges => length_behind(line.text, 7)?,
-    };
-    let end = line.next.saturating_add(length);
-    if line.next > end || end > input.len() {
-        return None;
-    }
-    Some(Block {
-        names,
-        file: &input[line.next..end],
-        next: end,
-    })
-}
-
-fn print_words(rt: &HostRuntime, file: &[u8], out: &mut Vec<u8>) -> io::Result<()> {
-    let Some(name) = Word::of_text(b"a") else {
-        return Ok(());
-    };
-    let mut names = [name; 128];
-    print_file(rt.alloc(), file, &mut names, out)?;
-    Ok(())
-}
-
-fn print_badges(rt: &HostRuntime, file: &[u8], out: &mut Vec<u8>) -> io::Result<()> {
-    let Some(name) = Badge::of_text(b"0") else {
-        return Ok(());
-    };
-    let mut names = [name; 128];
-    print_file(rt.alloc(), file, &mut names, out)?;
-    Ok(())
 }
 
 fn main(rt: HostRuntime) -> io::Result<()> {
     let mut input = Vec::new(rt.alloc());
     rt.stdin().read_to_end(&mut input)?;
-    let bytes = input.as_slice();
+    let rest = input.as_slice();
     let mut out = Vec::new(rt.alloc());
-    let mut at = 0;
-    while let Some(block) = block_at(bytes, at) {
-        match block.names {
-            Names::Words => print_words(&rt, block.file, &mut out)?,
-            Names::Badges => print_badges(&rt, block.file, &mut out)?,
+    for (names, file) in (Files { rest }) {
+        // kept: the kind of a name is a type, which a call has to spell out
+        match names {
+            Names::Words => judge_file::<Word>(&rt, b"a", file, &mut out)?,
+            Names::Badges => judge_file::<Badge>(&rt, b"0", file, &mut out)?,
         }
-        at = block.next;
     }
     rt.stdout().write_all(out.as_slice())
 }

@@ -1,11 +1,9 @@
 -- Trailers and their fields.
-use Rattle.std.proofs.Common.{◌≡◌, ℕ, ◌+◌, ◌-◌, ◌*◌, ◌<◌, ◌≤◌, Bool, true, false, ◌&&◌, eqb, List, [], ◌∷◌, ◌++◌, length, get_or, take, drop, sym, refl, ap, ◌∙◌, subst, arith, eqb-true}
+use Rattle.std.proofs.Common.{◌≡◌, ℕ, ◌+◌, ◌-◌, ◌<◌, ◌≤◌, Bool, true, ◌&&◌, eqb, List, [], ◌∷◌, ◌++◌, length, get_or, take, drop, sym, refl, ap, ◌∙◌, subst, arith, eqb-true}
 use Rattle.std.proofs.lemmas.Bool.Decides.{nat_tests}
 use Rattle.std.proofs.lemmas.List.{take_all, drop_all, drop_more, drop_at, drop-drop, take-append-drop, length-append, length-drop}
 use Rattle.text.specs.Bytes.{digit, every}
 use Rattle.text.specs.Decimal.{value}
-use Rattle.text.specs.Bools.{clash, every_at, every_more}
-use Rattle.text.specs.Numbers.{value_more}
 use Rattle.load.specs.Files.{Four, Trailer, EndsIn, OneTrailer, trailer_bytes, ruled}
 use Rattle.load.specs.declared.trailer.Frame.{Frame}
 
@@ -14,31 +12,6 @@ pub record DigitsSoFar (w : List ℕ) (n i : ℕ) : Type 0 where
   pub worth : n ≡ value (take i w)
   pub digits : every digit (take i w) ≡ true
   pub small : (i ≤ 0 → n ≤ 0) × (i ≤ 1 → n ≤ 9) × (i ≤ 2 → n ≤ 99) × (i ≤ 3 → n ≤ 999)
-
-low_digit : (b : ℕ) → digit b ≡ true → b - 48 ≤ 9
-low_digit b h = grind (arith, nat_tests)
-
-pub digits_none : (w : List ℕ) → DigitsSoFar w 0 0
-digits_none w = record { worth = refl; digits = refl; small = (λ _. omega arith, λ _. omega arith, λ _. omega arith, λ _. omega arith) }
-
-pub digits_more : (w : List ℕ) (n m i : ℕ) → i < length w → digit (get_or w i 0) ≡ true → m ≡ 10 * n + (get_or w i 0 - 48) → DigitsSoFar w n i → DigitsSoFar w m (i + 1)
-digits_more w n m i h d e r =
-    let l = low_digit (get_or w i 0) d in
-    record {
-      worth = e ∙ omega (arith, r.worth, value_more w i h);
-      digits = every_more digit w i h r.digits d;
-      small = (λ k. absurd (omega arith), λ k. omega (arith, r.small.0 (omega arith)), λ k. omega (arith, r.small.1 (omega arith)), λ k. omega (arith, r.small.2 (omega arith)));
-    }
-
-pub no_four : (w : List ℕ) (i : ℕ) → i < length w → digit (get_or w i 0) ≡ false → (n : ℕ) → Four w n → ⊥
-no_four w i h bad n f = clash (every_at digit w i h f.digits) bad
-
-pub digits_all : (w : List ℕ) (n i : ℕ) → length w ≡ 4 → length w ≤ i → DigitsSoFar w n i → Four w n
-digits_all w n i four h r = record {
-  four = four;
-  digits = subst (λ t. every digit t ≡ true) (take_all i w h) r.digits;
-  worth = r.worth ∙ ap value (take_all i w h);
-}
 
 record Quad (w : List ℕ) : Type 0 where
   a : ℕ
@@ -72,12 +45,6 @@ fields_at p s n h k l =
 
 pub fields : (tail : List ℕ) (t : Frame) → (r : Trailer tail t) → Fields tail r.p r.s r.n
 fields tail t r = subst (λ u. Fields u r.p r.s r.n) (sym r.written) (fields_at r.p r.s r.n r.plan_says.four r.stamps_says.four r.count_says.four)
-
-pub no_trailer_long : (tail : List ℕ) → (length tail ≡ 19 → ⊥) → (t : Frame) → Trailer tail t → ⊥
-no_trailer_long tail h t r = h (fields tail t r).long
-
-pub no_trailer_ruled : (tail : List ℕ) → ruled tail ≡ false → (t : Frame) → Trailer tail t → ⊥
-no_trailer_ruled tail h t r = clash (fields tail t r).rules h
 
 pub no_trailer_plan : (tail : List ℕ) → ((n : ℕ) → Four (take 4 (drop 4 tail)) n → ⊥) → (t : Frame) → Trailer tail t → ⊥
 no_trailer_plan tail h t r = h t.plan (subst (λ w. Four w t.plan) (sym (fields tail t r).first) r.plan_says)
@@ -153,9 +120,6 @@ ends_from file t h r = record {
   whole = sym (take-append-drop (length file - 19) file);
   trailer = subst (λ w. Trailer w t) (last_is file) r;
 }
-
-pub long_enough : (file : List ℕ) (t : Frame) → EndsIn file t → 19 ≤ length file
-long_enough file t e = omega (arith, ap length e.whole, length-append e.front e.tail, (fields e.tail t e.trailer).long)
 
 pub last_trailer : (file : List ℕ) (t : Frame) → EndsIn file t → Trailer (last_bytes file) t
 last_trailer file t e =

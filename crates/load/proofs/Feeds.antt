@@ -1,7 +1,8 @@
 -- Lines of a text, one by one.
-use Rattle.std.proofs.Common.{◌≡◌, ℕ, suc, ◌+◌, ◌-◌, ◌<◌, ◌≤◌, Bool, true, false, cond, not, ◌&&◌, eqb, List, [], ◌∷◌, ◌++◌, length, get_or, take, drop, sym, refl, ap, ◌∙◌, subst, append_assoc, append-nil, add-zero, arith}
+use Rattle.std.proofs.Common.{◌≡◌, ℕ, suc, ◌+◌, ◌-◌, ◌<◌, ◌≤◌, Bool, true, false, cond, not, ◌&&◌, eqb, List, [], ◌∷◌, ◌++◌, length, get_or, take, drop, inl, inr, sym, refl, ap, ◌∙◌, subst, append_assoc, append-nil, add-zero, arith}
 use Rattle.std.specs.List.{flat_map}
-use Rattle.std.proofs.lemmas.List.{length-take, length-take-le, length-drop, length-append, length_push, drop_at, take_all, drop_all, drop_more, drop-drop, take-append-drop, get_or-take, get_or-drop, flat_map_more}
+use Rattle.std.proofs.lemmas.List.{length-take, length-take-le, length-drop, length-append, length_push, drop_at, drop-append-le, take_all, drop_all, drop_more, drop-drop, take-append-drop, get_or-take, get_or-drop}
+use Rattle.std.proofs.lemmas.Bool.{cases_lt}
 use Rattle.std.proofs.lemmas.Bool.Decides.{nat_tests}
 use Rattle.text.specs.Bytes.{every, Longest}
 use Rattle.load.specs.Files.{Placed, longer, lines_at, ended, no_feed, body, stamp_lines, Lined, LinesTold, Walk, LinesWalked}
@@ -87,42 +88,54 @@ stands_line body at to l h = record { bytes = bytes; long = long; first = first 
         ∙ (lines_front at (take (to - at) (drop at body)) (drop (to + 1) body) (before_feed body at to l)
         ∙ ap (λ q. (at, take (to - at) (drop at body)) ∷ lines_at q (drop (to + 1) body)) (sym long))
 
--- going from line to line: the lines passed so far, and those that are left
-pub record Walked (body : List ℕ) (from : ℕ) (done : List Placed) (at : ℕ) : Type 0 where
-  pub lines : lines_at from (drop from body) ≡ done ++ lines_at at (drop at body)
-  pub bytes : drop from body ≡ flat_map ended done ++ drop at body
+-- no more lines than bytes
+few_step : (p b : ℕ) (t : List ℕ) (xs : List Placed) (c : Bool) → length xs ≤ length t → length (cond c ((p, []) ∷ xs) (longer p b xs)) ≤ length (b ∷ t)
+few_step p b t xs true h = omega (arith, h)
+few_step p b t [] false h = omega arith
+few_step p b t (x ∷ xs) false h = omega (arith, h)
 
-pub walked_none : (body : List ℕ) (from : ℕ) → Walked body from [] from
-walked_none body from = record { lines = refl; bytes = refl }
+pub few_lines : (p : ℕ) (t : List ℕ) → length (lines_at p t) ≤ length t
+few_lines p [] = omega arith
+few_lines p (b ∷ t) = few_step p b t (lines_at (p + 1) t) (eqb b 10) (few_lines (p + 1) t)
 
--- one line more
-pub walked_more : (body : List ℕ) (from : ℕ) (done : List Placed) (at next : ℕ) (text : List ℕ)
-    → drop at body ≡ text ++ (10 ∷ drop next body) → lines_at at (drop at body) ≡ (at, text) ∷ lines_at next (drop next body)
-    → Walked body from done at → Walked body from (done ++ ((at, text) ∷ [])) next
-walked_more body from done at next text b l w = record {
-  lines = w.lines ∙ (ap (λ r. done ++ r) l ∙ sym (append_assoc done ((at, text) ∷ []) (lines_at next (drop next body))));
-  bytes = w.bytes
-      ∙ (ap (λ r. flat_map ended done ++ r) (b ∙ sym (append_assoc text (10 ∷ []) (drop next body)))
-      ∙ (sym (append_assoc (flat_map ended done) (text ++ (10 ∷ [])) (drop next body))
-      ∙ ap (λ r. r ++ drop next body) (flat_map_more ended [] done (at, text))));
-}
+-- bytes that end in a line feed are lines
+whole_step : (p b : ℕ) (t : List ℕ) (xs : List Placed) (c : Bool) → eqb b 10 ≡ c → flat_map ended xs ≡ t → 0 < length t
+    → flat_map ended (cond c ((p, []) ∷ xs) (longer p b xs)) ≡ b ∷ t
+whole_step p b t xs true e h n = ap (λ r. 10 ∷ r) h ∙ ap (λ x. x ∷ t) (sym (feed b (ap not e)))
+whole_step p b t [] false e h n = absurd (omega (arith, ap length h))
+whole_step p b t (x ∷ xs) false e h n = ap (λ r. b ∷ r) h
 
--- no line is left: those passed are all
-pub walked_all : (body : List ℕ) (from : ℕ) (done : List Placed) (at : ℕ) → lines_at at (drop at body) ≡ [] → Walked body from done at → lines_at from (drop from body) ≡ done
-walked_all body from done at e w = w.lines ∙ (ap (λ r. done ++ r) e ∙ append-nil done)
+whole_lines : (p : ℕ) (f : List ℕ) → flat_map ended (lines_at p (f ++ (10 ∷ []))) ≡ f ++ (10 ∷ [])
+whole_lines p [] = refl
+whole_lines p (b ∷ f) =
+    whole_step p b (f ++ (10 ∷ [])) (lines_at (p + 1) (f ++ (10 ∷ []))) (eqb b 10) refl (whole_lines (p + 1) f) (omega (arith, length_push f 10))
 
--- and they are all of the bytes, if none are left
-pub walked_filled : (body : List ℕ) (from : ℕ) (done : List Placed) (at : ℕ) → lines_at at (drop at body) ≡ [] → length body ≤ at → Walked body from done at
-    → flat_map ended (lines_at from (drop from body)) ≡ drop from body
-walked_filled body from done at e h w =
-    ap (flat_map ended) (walked_all body from done at e w)
-    ∙ sym (w.bytes ∙ (ap (λ r. flat_map ended done ++ r) (drop_all at body h) ∙ append-nil (flat_map ended done)))
+pub all_lines : (body : List ℕ) (from : ℕ) → (from < length body → body ≡ take (length body - 1) body ++ (10 ∷ [])) → flat_map ended (lines_at from (drop from body)) ≡ drop from body
+all_lines body from h =
+    elim (cases_lt from (length body)) [
+      | inl lt ↦
+          let f = take (length body - 1) body in
+          let e : drop from body ≡ drop from f ++ (10 ∷ []) = ap (drop from) (h lt) ∙ drop-append-le from f (10 ∷ []) (omega (arith, length-take-le (length body - 1) body (omega arith))) in
+          ap (λ t. flat_map ended (lines_at from t)) e ∙ (whole_lines from (drop from f) ∙ sym e)
+      | inr ge ↦ let e = drop_all from body ge in ap (λ t. flat_map ended (lines_at from t)) e ∙ sym e
+    ]
 
-pub walked_unfilled : (body : List ℕ) (from : ℕ) (done : List Placed) (at : ℕ) → lines_at at (drop at body) ≡ [] → at < length body → Walked body from done at
-    → flat_map ended (lines_at from (drop from body)) ≡ drop from body → ⊥
-walked_unfilled body from done at e h w f =
-    let s : flat_map ended done ≡ flat_map ended done ++ drop at body = sym (ap (flat_map ended) (walked_all body from done at e w)) ∙ (f ∙ w.bytes) in
-    omega (arith, ap length s, length-append (flat_map ended done) (drop at body), length-drop at body)
+-- lines end in a line feed
+record LastFeed (t : List ℕ) : Type 0 where
+  front : List ℕ
+  is : t ≡ front ++ (10 ∷ [])
+
+last_feed : (x : Placed) (xs : List Placed) → LastFeed (flat_map ended (x ∷ xs))
+last_feed x [] = record { front = x.1; is = append-nil (ended x) }
+last_feed x (y ∷ ys) =
+    let r = last_feed y ys in
+    record { front = ended x ++ r.front; is = ap (λ t. ended x ++ t) r.is ∙ sym (append_assoc (ended x) r.front (10 ∷ [])) }
+
+pub not_lines : (body : List ℕ) (from : ℕ) (xs : List Placed) → from < length body → ((front : List ℕ) → body ≡ front ++ (10 ∷ []) → ⊥) → flat_map ended xs ≡ drop from body → ⊥
+not_lines body from [] h none e = omega (arith, ap length e, length-drop from body)
+not_lines body from (x ∷ xs) h none e =
+    let r = last_feed x xs in
+    none (take from body ++ r.front) (sym (take-append-drop from body) ∙ (ap (λ t. take from body ++ t) (sym e ∙ r.is) ∙ sym (append_assoc (take from body) r.front (10 ∷ []))))
 
 -- what the lines of a text tell
 abbrev Told : ℕ → List ℕ → List Placed → Type 0

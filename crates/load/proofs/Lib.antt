@@ -3,5 +3,4 @@ pub mod Endings
 pub mod Appending
 pub mod Members
 pub mod Takings
-pub mod Lending
 pub mod Verdicts

@@ -1,5 +1,5 @@
 -- Stamp lines that are taken one after another.
-use Rattle.std.proofs.Common.{◌≡◌, ℕ, Bool, true, List, [], ◌∷◌, ◌++◌, map, length, None, Ok, Err, Option, sym, ap, ◌∙◌, subst, inl, inr, Bor}
+use Rattle.std.proofs.Common.{◌≡◌, ℕ, Bool, true, List, [], ◌∷◌, ◌++◌, map, length, None, Ok, Err, Option, Result, MatchResult, IsErrAnd, refl, sym, ap, ◌∙◌, subst, inl, inr, Bor, arith}
 use mathlib.Core.List.{map-append}
 use Rattle.std.proofs.ByRecursion.{All-push}
 use Rattle.text.specs.Directory.{Text}
@@ -10,8 +10,7 @@ use Rattle.sheet.specs.declared.refusal.Refusal.{Refusal}
 use Rattle.sheet.specs.Calls.{Ground, Begins, Follows, Stamps, StandsThen, short}
 use Rattle.sheet.specs.Views.{ground_over, ground_of, stands_on}
 use Rattle.load.specs.Files.{Placed}
-use Rattle.load.specs.Judged.{texts_of, Taken, AnswersOf}
-use Rattle.load.specs.declared.judgement.Judgement.{Judgement}
+use Rattle.load.specs.Judged.{texts_of, Taken}
 
 texts_push : (done : List Placed) (at : ℕ) (u : Text) → texts_of (done ++ ((at, u) ∷ [])) ≡ texts_of done ++ (u ∷ [])
 texts_push done at u = map-append (λ x. x.1) done ((at, u) ∷ [])
@@ -26,15 +25,6 @@ pub record PutTo (g h : Ground) (σ : List Text) (t u : Text) (lack : Option ℕ
 -- a sheet with the same plan and names has the same ground
 pub same_ground : {K : Type 0} {G : Ghosts K} (text : K → Text) (s t : Sheet K G) → s.plan ≡ t.plan → s.names ≡ t.names → ground_of text s ≡ ground_of text t
 same_ground text s t p q = ap (λ (x : Bor Plan). ground_over text x.now s.names.now) p ∙ ap (λ x. ground_over text t.plan.now x.now) q
-
--- the ground of a sheet over a plan and names
-pub opened_ground : {K : Type 0} {G : Ghosts K} (text : K → Text) (s : Sheet K G) (p : Plan) (names : List K) → s.plan.now ≡ p → s.names.now ≡ names → ground_of text s ≡ ground_over text p names
-opened_ground text s p names e f = ap (λ x. ground_over text x s.names.now) e ∙ ap (ground_over text p) f
-
--- the same answers, of the same ground and stamps
-pub answers_moved : (g h : Ground) (σ τ : List Text) (reading reading_after next next_after : List ℕ) (j : Judgement) → g ≡ h → σ ≡ τ
-    → AnswersOf g σ reading reading_after next next_after j → AnswersOf h τ reading reading_after next next_after j
-answers_moved g h σ τ r r' n n' j e f a = subst (λ ρ. AnswersOf h ρ r r' n n' j) f (subst (λ k. AnswersOf k σ r r' n n' j) e a)
 
 -- a sheet with the same plan and names, lent as much as it needs
 pub put_to : {K : Type 0} {G : Ghosts K} (text : K → Text) (s t : Sheet K G) (x : K) (u : Text) (m n a b : ℕ) (done : List Placed) → s.plan ≡ t.plan → s.names ≡ t.names
@@ -77,6 +67,16 @@ stands_so g h σ τ t u lack done at p s a =
     let s1 : Follows h σ t = subst (λ l. Stamps h σ t l (Ok tt)) p.enough s in
     let a1 : StandsThen h σ t None τ = subst (λ l. StandsThen h σ t l τ) p.enough a in
     stood h σ τ t a1 s1 ∙ (ap (λ ρ. ρ ++ (t ∷ [])) p.stands ∙ (ap (λ v. texts_of done ++ (v ∷ [])) p.text ∙ sym (texts_push done at u)))
+
+-- what an answer is, if another refusal stands in for its own
+pub ok_before : {T D E : Type 0} (Q : D → E → Type 0) (r : Result T D) (s : Result T E) (x : T) → MatchResult r (λ y. s ≡ Ok y) (λ e. IsErrAnd s (Q e)) → s ≡ Ok x → r ≡ Ok x
+ok_before Q (Ok y) s x h k = cc
+ok_before Q (Err e) s x h k = absurd (rw k at h)
+
+pub err_before : {T D E : Type 0} (Q : D → E → Type 0) (r : Result T D) (s : Result T E) (y : E) → MatchResult r (λ x. s ≡ Ok x) (λ e. IsErrAnd s (Q e)) → s ≡ Err y
+    → (e : D) × (r ≡ Err e) × Q e y
+err_before Q (Ok x) s y h k = let z : ◌≡◌ {A = ℕ} 0 1 = cc in absurd (omega arith)
+err_before Q (Err e) s y h k = (e, refl, rw k at h)
 
 -- one line more is taken
 pub taken_more : (has : Text → Bool) (g : Ground) (done : List Placed) (at : ℕ) (u : Text) → Taken has g done → has u ≡ true

@@ -1,32 +1,20 @@
 -- What is known of a file's frame, plan and stamp lines, put together.
-use Rattle.std.proofs.Common.{◌≡◌, ℕ, Bool, List, map, length, IfOk, None, Ok, Err, vec_items, Option, Result, Vec, sym, refl, ◌∙◌, subst}
+use Rattle.std.proofs.Common.{◌≡◌, ℕ, Bool, List, map, IfOk, MatchOption, Some, None, Ok, Err, vec_items, Option, Result, Vec, sym, refl, ◌∙◌, subst, arith}
+use Rattle.std.specs.Result.{IsOk}
 use Rattle.text.specs.Directory.{Text}
 use Rattle.plan.specs.declared.plan.Plan.{Plan}
-use Rattle.grammar.specs.declared.refusal.PlanError.{PlanError}
-use Rattle.grammar.specs.declared.refusal.PlanError.TheVariants as plan-error
-use Rattle.grammar.specs.declared.refusal.Refusal.{Refusal}
-use Rattle.plan.specs.Parses.{RefusedFor}
-use Rattle.sheet.specs.Calls.{Ground}
 use Rattle.sheet.specs.Views.{ground_over}
-use Rattle.load.specs.Files.{Placed, stamp_lines}
-use Rattle.plan.specs.Reads.{ReadAnswer}
-use Rattle.load.specs.Judged.{Opened, RefusedLine, RefusedFile, Judging, LeftAlone, OpeningAnswer, StampsJudged}
+use Rattle.load.specs.Files.{stamp_lines}
+use Rattle.load.specs.Judged.{Opened, RefusedLine, RefusedFile, Judging, OpeningAnswer, StampsJudged}
 use Rattle.load.specs.Gates.{StandsFor, Prints}
 use Rattle.load.specs.Printed.{Appends}
 use Rattle.load.specs.JudgementLines.{refused_bytes}
 use Rattle.load.specs.declared.judgement.Judgement.{Judgement}
-use Rattle.plan.specs.declared.reading.Counts.{Counts}
 use Rattle.load.specs.declared.refusal.LoadRefusal.{LoadRefusal}
 use Rattle.load.specs.declared.refusal.LoadRefusal.TheVariants as load-refusal
 use Rattle.load.specs.declared.refusal.LoadError.{LoadError}
 use Rattle.load.specs.declared.refusal.LoadError.TheVariants as load-error
 use Rattle.load.specs.declared.opening.Opening.{Opening}
-
--- why reading a plan's text in a file is refused
-pub plan_refused : {K : Type 0} (text : K → Text) (has : Text → Bool) (t u : List ℕ) (before after : List K) (old new : Plan) (e : PlanError) (f : Refusal)
-    → t ≡ u → e ≡ plan-error.Refused f → ReadAnswer text has t before after old new (Err e) → RefusedFor has (length before) u f
-plan_refused text has t u before after old new e f p q r =
-    subst (λ v. RefusedFor has (length before) v f) p (subst (λ x. ReadAnswer text has t before after old new (Err x)) q r).0
 
 module _ {K : Type 0} (text : K → Text) (has : Text → Bool) (file : List ℕ) (before after : List K) (p : Plan) where
   -- a stamp line that is refused, over frame and plan
@@ -48,7 +36,7 @@ module _ {K : Type 0} (text : K → Text) (has : Text → Bool) (file : List ℕ
       answers = s.1;
     }
     verdict o (Err (load-error.Refused f)) a s = refused_so f (record { frame = o.frame; framed = a.0; reads = a.1 }) s.0
-    verdict o (Err load-error.Memory) a s = absurd s
+    verdict o (Err (load-error.Memory x)) a s = absurd s
 
     -- the stamp lines are judged behind frame and plan
     pub judged : (lack : Option ℕ) (o : Opening) (r : Result Judgement LoadError) → lack ≡ None → OpeningAnswer text has file before after p (Ok o)
@@ -56,21 +44,19 @@ module _ {K : Type 0} (text : K → Text) (has : Text → Bool) (file : List ℕ
         → Judging text has file before after p reading reading_after next next_after lack r
     judged lack o r h a s = subst (λ l. Judging text has file before after p reading reading_after next next_after l r) (sym h) (verdict o r a s)
 
-    unopened_so : (e : LoadError) → OpeningAnswer text has file before after p (Err e) → Judging text has file before after p reading reading_after next next_after None (Err e)
-    unopened_so (load-error.Refused f) a = a
-    unopened_so load-error.Memory a = a
+-- what is said of the first buffer that is too short, if one is
+abbrev Lent : Option ℕ → Result (Unit {0}) LoadRefusal → Type 0
+Lent lack r = MatchOption lack (IsOk r) (λ n. r ≡ Err (load-refusal.Short n))
 
-    -- or they are not reached
-    pub unopened : (lack : Option ℕ) (e : LoadError) → lack ≡ None → OpeningAnswer text has file before after p (Err e)
-        → Judging text has file before after p reading reading_after next next_after lack (Err e)
-    unopened lack e h a = subst (λ l. Judging text has file before after p reading reading_after next next_after l (Err e)) (sym h) (unopened_so e a)
+pub none_short : (lack : Option ℕ) → Lent lack (Ok tt) → lack ≡ None
+none_short None h = refl
+none_short (Some n) h = cc
 
--- the buffers for results stay where the stamp lines are not all taken
-pub left_alone : (has : Text → Bool) (g : Ground) (lines : List Placed) (c : Counts) (reading reading_after next next_after : List ℕ) (r : Result Judgement LoadError)
-    → StampsJudged has g lines c reading reading_after next next_after r → LeftAlone r reading reading_after next next_after
-left_alone has g lines c reading reading_after next next_after (Ok j) s = tt
-left_alone has g lines c reading reading_after next next_after (Err (load-error.Refused f)) s = (s.1, s.2)
-left_alone has g lines c reading reading_after next next_after (Err load-error.Memory) s = absurd s
+pub some_short : {K : Type 0} (text : K → Text) (has : Text → Bool) (file : List ℕ) (before after : List K) (p : Plan)
+    (reading reading_after next next_after : List ℕ) (lack : Option ℕ) (f : LoadRefusal) → Lent lack (Err f)
+    → Judging text has file before after p reading reading_after next next_after lack (Err (load-error.Refused f))
+some_short text has file before after p reading reading_after next next_after None f h = absurd (let z : ◌≡◌ {A = ℕ} 0 1 = cc h in omega arith)
+some_short text has file before after p reading reading_after next next_after (Some n) f h = cc h
 
 -- the bytes of an answer are put behind what is there, or memory was wanting
 pub prints : {K Z E : Type 0} (text : K → Text) (has : Text → Bool) (file : List ℕ) (names names_after : List K) (p : Plan)

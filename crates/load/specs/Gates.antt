@@ -12,7 +12,7 @@ use Rattle.load.specs.declared.refusal.LoadError.TheVariants.{Refused, Memory}
 abbrev pub StandsFor : List ℕ → List Text → List ℕ → List ℕ → Result Judgement LoadError → Type 0
 StandsFor bytes texts reading next (Ok j) = bytes ≡ judgement_bytes reading texts next j
 StandsFor bytes texts reading next (Err (Refused f)) = bytes ≡ refused_bytes f
-StandsFor bytes texts reading next (Err Memory) = ⊥
+StandsFor bytes texts reading next (Err (Memory x)) = ⊥
 
 -- behind what was there, the answer of judging the file is printed, where this length, if any, is lacking of the buffers
 pub record Prints {K : Type 0} (text : K → Text) (has : Text → Bool) (file : List ℕ) (names : List K) (lack : Option ℕ) (before after : List ℕ) : Type 0 where

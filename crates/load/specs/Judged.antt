@@ -109,7 +109,7 @@ StampsJudged has g lines counts reading reading_after next next_after (Ok j) =
     Taken has g lines × AnswersOf g (texts_of lines) reading reading_after next next_after j × (j.counts ≡ counts)
 StampsJudged has g lines counts reading reading_after next next_after (Err (load-error.Refused f)) =
     RefusedLine has g lines f × (reading_after ≡ reading) × (next_after ≡ next)
-StampsJudged has g lines counts reading reading_after next next_after (Err load-error.Memory) = ⊥
+StampsJudged has g lines counts reading reading_after next next_after (Err (load-error.Memory x)) = ⊥
 
 -- the first length that is too short, of the buffers for names, the first reading, the names that may follow, numbers and amounts
 abbrev pub lent_short : ℕ → ℕ → ℕ → ℕ → ℕ → Option ℕ
@@ -155,7 +155,7 @@ abbrev pub OpeningAnswer : {K : Type 0} → (K → Text) → (Text → Bool) →
 OpeningAnswer text has file before after p (Ok o) =
     Framed file (Ok o.frame) × ReadsPlan text has (plan_text file o.frame) before after p × (o.counts ≡ counts_of (shape_of p.tree))
 OpeningAnswer text has file before after p (Err (load-error.Refused f)) = RefusedFile text has file before f
-OpeningAnswer text has file before after p (Err load-error.Memory) = UnrefusedFile has file before
+OpeningAnswer text has file before after p (Err (load-error.Memory x)) = UnrefusedFile has file before
 
 -- what judging a file answers: where a buffer is too short, that; else the judgement, or the refusal; and memory is wanting
 -- only where neither the frame nor the plan is refused
@@ -164,7 +164,7 @@ abbrev pub Judging : {K : Type 0} → (K → Text) → (Text → Bool) → List 
 Judging text has file before after p reading reading_after next next_after (Some n) r = r ≡ Err (load-error.Refused (load-refusal.Short n))
 Judging text has file before after p reading reading_after next next_after None (Ok j) = Judged text has file before after p reading reading_after next next_after j
 Judging text has file before after p reading reading_after next next_after None (Err (load-error.Refused f)) = RefusedFile text has file before f
-Judging text has file before after p reading reading_after next next_after None (Err load-error.Memory) = UnrefusedFile has file before
+Judging text has file before after p reading reading_after next next_after None (Err (load-error.Memory x)) = UnrefusedFile has file before
 
 -- where a file is not judged, the buffers for results stay as they were
 abbrev pub LeftAlone : Result Judgement LoadError → List ℕ → List ℕ → List ℕ → List ℕ → Type 0

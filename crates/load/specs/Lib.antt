@@ -1,4 +1,5 @@
 pub mod Files
+pub mod LinesLeft
 pub mod LoadRefusals
 pub mod Printed
 pub mod JudgementLines

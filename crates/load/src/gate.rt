@@ -27,10 +27,8 @@ fn print_judged<K: Kind>(
 {
     match judge(heap, file, plan, names, reading, next, numbers, amounts) {
         Ok(judgement) => write_judgement(out, &judgement, names, reading, next),
-        Err(error) => match error {
-            LoadError::Refused(refusal) => write_refused(out, refusal),
-            LoadError::Memory => Err(AllocError),
-        },
+        Err(LoadError::Refused(refusal)) => write_refused(out, refusal),
+        Err(LoadError::Memory(error)) => Err(error),
     }
 }
 

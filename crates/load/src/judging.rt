@@ -1,5 +1,6 @@
 //! One call that judges a whole load file.
-ghost use Rattle.std.specs.Prelude.{◌≡◌, length, None};
+ghost use Rattle.std.specs.Prelude.{◌≡◌, length, None, Err, MatchOption};
+ghost use Rattle.std.specs.Result.{IsOk};
 ghost use Rattle.sheet.specs.Views.{ground_over};
 ghost use Rattle.load.specs.Files.{stamp_lines};
 ghost use Rattle.load.specs.Judged.{Judging, LeftAlone, StampsJudged, lent_short};
@@ -22,24 +23,25 @@ const NUMBERS: usize = 32768;
 
 const AMOUNTS: usize = 8192;
 
-// The first of the buffers that is shorter than needed: the length needed.
-fn lacking(
+// kept: five lengths with two results among them; the check of `sheet` is of three or four, and told on a sheet
+// Whether the buffers are as long as needed; or the length needed of the first that is shorter.
+fn long_enough(
     names: usize,
     reading: usize,
     next: usize,
     numbers: usize,
     amounts: usize,
-) -> Option<usize>
-    ensures { result ≡ lent_short names reading next numbers amounts }
+) -> Result<(), LoadRefusal>
+    ensures { MatchOption (lent_short names reading next numbers amounts) (IsOk result) (λ n. result ≡ Err (LoadRefusal.Short n)) }
 {
     if names < LIST || reading < LIST || next < LIST {
-        Some(LIST)
+        Err(LoadRefusal::Short(LIST))
     } else if numbers < NUMBERS {
-        Some(NUMBERS)
+        Err(LoadRefusal::Short(NUMBERS))
     } else if amounts < AMOUNTS {
-        Some(AMOUNTS)
+        Err(LoadRefusal::Short(AMOUNTS))
     } else {
-        None
+        Ok(())
     }
 }
 
@@ -60,10 +62,8 @@ fn judge_stamps<'x, K: Kind>(
     let counts = opening.counts;
     let from = opening.frame.stamps;
     let mut sheet = Sheet::open(plan, names);
-    match stamp_lines(&mut sheet, body_of(file), from, numbers, amounts) {
-        Ok(stamps) => Ok(answers(&sheet, stamps, counts, reading, next, numbers, amounts)),
-        Err(refusal) => Err(LoadError::Refused(refusal)),
-    }
+    let stamps = stamp_lines(&mut sheet, body_of(file), from, numbers, amounts)?;
+    Ok(answers(&sheet, stamps, counts, reading, next, numbers, amounts))
 }
 
 /// Judges a whole load file: reads its plan, with its names, into what is lent for them, stamps its lines, and answers all
@@ -81,17 +81,13 @@ pub fn judge<K: Kind>(
     ensures answer { Judging K.text K.has file.now names.old names.new plan.new reading.old reading.new next.old next.new (lent_short (length names.old) (length reading.old) (length next.old) (length numbers.old) (length amounts.old)) result }
     ensures kept { LeftAlone result reading.old reading.new next.old next.new }
 {
-    if let Some(n) = lacking(
+    long_enough(
         names.len(),
         reading.len(),
         next.len(),
         numbers.len(),
         amounts.len(),
-    ) {
-        return Err(LoadError::Refused(LoadRefusal::Short(n)));
-    }
-    match open_file(heap, file, plan, names) {
-        Ok(opening) => judge_stamps(file, opening, plan, names, reading, next, numbers, amounts),
-        Err(error) => Err(error),
-    }
+    )?;
+    let opening = open_file(heap, file, plan, names)?;
+    judge_stamps(file, opening, plan, names, reading, next, numbers, amounts)
 }

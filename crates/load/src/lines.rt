@@ -1,9 +1,13 @@
-ghost use Rattle.std.specs.Prelude.{◌≡◌, ◌≤◌, length};
+//! The lines of a load file.
+ghost use Rattle.std.specs.Prelude.{◌≡◌, ◌≤◌, length, drop};
 ghost use Rattle.text.specs.Bytes.{Longest};
-ghost use Rattle.load.specs.Files.{no_feed, NextLine, Counts, LinesTold};
+ghost use Rattle.load.specs.Files.{no_feed, NextLine, Counts, LinesTold, lines_at};
+ghost use Rattle.load.specs.LinesLeft.{lines_left};
+
+use text::run_end;
 
 /// A line of a load file.
-#[derive(Clone, Copy)]
+#[derive(Clone, Copy, Debug, PartialEq, Eq)]
 pub struct Line<'a> {
     /// The place of its first byte.
     pub at: usize,
@@ -13,16 +17,13 @@ pub struct Line<'a> {
     pub next: usize,
 }
 
+// kept: one call, for what a load file's definition says of a line's end; that of call lines has a definition of its own
 // The place of the first line feed from a place on, or the length where there is none.
 fn feed_from(body: &[u8], at: usize) -> usize
     requires { at ≤ length body.now }
     ensures { Longest no_feed body.now at result }
 {
-    let mut end = at;
-    while end < body.len() && body[end] != b'\n' {
-        end += 1;
-    }
-    end
+    run_end(body, at, |b| b != b'\n')
 }
 
 /// The line of a file's body at a place, if a line feed follows there.
@@ -43,25 +44,50 @@ pub fn next_line(body: &[u8], at: usize) -> Option<Line<'_>>
     })
 }
 
+/// The lines of a file's body, one after another.
+#[derive(Clone, Copy)]
+pub struct Lines<'a> {
+    body: &'a [u8],
+    at: usize,
+}
+
+impl<'a> Lines<'a> {
+    /// The lines of a file's body from a place on.
+    pub fn new(body: &'a [u8], from: usize) -> Lines<'a>
+        ensures { lines_left result ≡ lines_at from (drop from body.now) }
+    {
+        Lines { body, at: from }
+    }
+}
+
+impl<'a> Iterator for Lines<'a> {
+    ghost use Rattle.std.specs.Iterator.{YieldsFirstBy, item_count};
+    ghost use Rattle.load.specs.LinesLeft.{placed};
+
+    type Item = Line<'a>;
+
+    ghost next_gives = { YieldsFirstBy placed lines_left };
+
+    ghost remaining = { item_count lines_left };
+
+    fn next(&mut self) -> Option<Line<'a>> {
+        let line = next_line(self.body, self.at)?;
+        self.at = line.next;
+        Some(line)
+    }
+}
+
 /// How many lines there are from a place of a file's body on, where these are all of its bytes there.
 pub fn count_lines(body: &[u8], from: usize) -> Option<usize>
     ensures { Counts body.now from result }
 {
-    let mut at = from;
-    let mut count = 0;
-    while let Some(line) = next_line(body, at) {
-        at = line.next;
-        count += 1;
-    }
-    if at < body.len() {
+    if from < body.len() && !body.ends_with(b"\n") {
         return None;
     }
-    Some(count)
+    Some(Lines::new(body, from).count())
 }
 
 /// The lines of a text are the one way to take it apart at its line feeds.
-pub fn lines_told() -> bool
+pub fn lines_told()
     ensures { LinesTold }
-{
-    true
-}
+{}

@@ -13,21 +13,18 @@ pub fn push_name<K: Kind>(out: &mut Vec<u8>, name: &K) -> Result<(), AllocError>
 {
     push_text(out, b" ")?;
     let mut buffer = [0; 12];
-    match name.write(&mut buffer) {
-        Some(n) => push_text(out, &buffer[0..n]),
-        None => Ok(()),
-    }
+    let n = name.write(&mut buffer).unwrap();
+    push_text(out, &buffer[..n])
 }
 
+// kept: one of the six lines has names, so a struct of both would serve these functions alone
 // Puts a space and the text of the name of a number behind what is there.
 fn push_numbered<K: Kind>(out: &mut Vec<u8>, names: &[K], number: u16) -> Result<(), AllocError>
     ensures { Appends (named (map K.text names.now) number) out.old out.new result }
 {
-    let i = usize::from(number);
-    if i < names.len() {
-        push_name(out, &names[i])
-    } else {
-        push_text(out, b" ")
+    match names.get(usize::from(number)) {
+        Some(name) => push_name(out, name),
+        None => push_text(out, b" "),
     }
 }
 

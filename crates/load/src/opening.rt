@@ -14,6 +14,7 @@ pub struct Opening {
     pub counts: Counts,
 }
 
+// kept: these are the buffers that `judge` is lent, as in print_judged
 // Finds the frame of a load file and reads its plan, with its names, into what is lent for them.
 pub fn open_file<K: Kind>(
     heap: Global,
@@ -23,18 +24,14 @@ pub fn open_file<K: Kind>(
 ) -> Result<Opening, LoadError>
     ensures { OpeningAnswer K.text K.has file.now names.old names.new plan.new result }
 {
-    let frame = match frame_of(file) {
-        Ok(frame) => frame,
-        Err(refusal) => return Err(LoadError::Refused(LoadRefusal::File(refusal))),
-    };
+    let frame = frame_of(file).map_err(LoadRefusal::File)?;
     match read(heap, plan_of(file, frame), plan, names) {
         Ok(counts) => Ok(Opening { frame, counts }),
-        Err(error) => match error {
-            PlanError::Refused(refusal) => {
-                let moved = counted_from(refusal, frame.plan);
-                Err(LoadError::Refused(LoadRefusal::Plan(moved)))
-            }
-            PlanError::Memory => Err(LoadError::Memory),
-        },
+        // kept: a refusal's place moves by the plan's place in the file, which `From` does not know
+        Err(PlanError::Refused(refusal)) => {
+            let moved = counted_from(refusal, frame.plan);
+            Err(LoadError::Refused(LoadRefusal::Plan(moved)))
+        }
+        Err(PlanError::Memory(error)) => Err(LoadError::Memory(error)),
     }
 }

@@ -1,9 +1,10 @@
-//! The printed lines, put byte by byte behind what a vector holds.
-ghost use Rattle.std.specs.Prelude.{List, ◌++◌, decimal};
+//! The printed lines, put part by part behind what a vector holds.
+ghost use Rattle.std.specs.Prelude.{◌≡◌, ℕ, decimal};
 ghost use Rattle.std.specs.List.{flat_map};
 ghost use Rattle.std.specs.Fmt.{signed_decimal};
-ghost use Rattle.load.specs.Printed.{Appends, spaced, field, list_line};
+ghost use Rattle.load.specs.Printed.{Appends, spaced, field, line};
 
+use itoa::Buffer;
 use std::alloc::AllocError;
 
 /// Puts a text behind what is there.
@@ -17,11 +18,7 @@ pub fn push_text(out: &mut Vec<u8>, text: &[u8]) -> Result<(), AllocError>
 pub fn push_number(out: &mut Vec<u8>, n: usize) -> Result<(), AllocError>
     ensures { Appends (decimal n) out.old out.new result }
 {
-    if n < 10 {
-        return push_text(out, &[b'0' + n as u8]);
-    }
-    push_number(out, n / 10)?;
-    push_text(out, &[b'0' + (n % 10) as u8])
+    push_text(out, Buffer::new().format(n).as_bytes())
 }
 
 /// Puts a space and a number behind what is there.
@@ -36,48 +33,31 @@ pub fn push_field(out: &mut Vec<u8>, n: usize) -> Result<(), AllocError>
 pub fn push_signed(out: &mut Vec<u8>, z: i32) -> Result<(), AllocError>
     ensures { Appends (spaced (signed_decimal z)) out.old out.new result }
 {
-    let n = z.unsigned_abs() as usize;
-    if z >= 0 {
-        return push_field(out, n);
-    }
-    push_text(out, b" -")?;
-    push_number(out, n)
+    push_text(out, b" ")?;
+    push_text(out, Buffer::new().format(z).as_bytes())
 }
 
 // Puts a space and a number behind what is there, for each of these.
-fn push_numbers(out: &mut Vec<u8>, numbers: &[usize]) -> Result<(), AllocError>
-    ensures { Appends (flat_map field numbers.now) out.old out.new result }
+fn push_numbers<T: Copy + Into<usize>>(out: &mut Vec<u8>, numbers: &[T]) -> Result<(), AllocError>
+    ensures { (worth : T → ℕ) → ((x : T) (n : ℕ) → T.converts x n → n ≡ worth x)
+        → Appends (flat_map (λ x. field (worth x)) numbers.now) out.old out.new result }
 {
     for n in numbers {
-        push_field(out, *n)?;
+        push_field(out, (*n).into())?;
     }
     Ok(())
 }
 
-// The same for the numbers of a list.
-fn push_list(out: &mut Vec<u8>, list: &[u16]) -> Result<(), AllocError>
-    ensures { Appends (flat_map field list.now) out.old out.new result }
-{
-    for n in list {
-        push_field(out, usize::from(*n))?;
-    }
-    Ok(())
-}
-
-/// A line of a label and these numbers.
-pub fn number_line(out: &mut Vec<u8>, label: &[u8], numbers: &[usize]) -> Result<(), AllocError>
-    ensures { Appends (list_line label.now numbers.now) out.old out.new result }
+/// A line of a label and these numbers; with none, the bare label.
+pub fn number_line<T: Copy + Into<usize>>(
+    out: &mut Vec<u8>,
+    label: &[u8],
+    numbers: &[T],
+) -> Result<(), AllocError>
+    ensures { (worth : T → ℕ) → ((x : T) (n : ℕ) → T.converts x n → n ≡ worth x)
+        → Appends (line label.now (flat_map (λ x. field (worth x)) numbers.now)) out.old out.new result }
 {
     push_text(out, label)?;
     push_numbers(out, numbers)?;
-    push_text(out, b"\n")
-}
-
-/// A line of a label and the numbers of a list; an empty list leaves the bare label.
-pub fn list_line(out: &mut Vec<u8>, label: &[u8], list: &[u16]) -> Result<(), AllocError>
-    ensures { Appends (list_line label.now list.now) out.old out.new result }
-{
-    push_text(out, label)?;
-    push_list(out, list)?;
     push_text(out, b"\n")
 }

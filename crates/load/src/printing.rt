@@ -1,15 +1,14 @@
-//! The lines that a load file's judgement, or its refusal, is printed in.
-ghost use Rattle.std.specs.Prelude.{◌≡◌, ◌++◌, map, take, Some};
-ghost use Rattle.std.specs.List.{flat_map};
+//! What is printed of a judgement, or of a refusal.
+ghost use Rattle.std.specs.Prelude.{◌≡◌, ℕ, ◌≤◌, List, map, take};
 ghost use Rattle.engine.specs.Scales.{bays_of};
-ghost use Rattle.load.specs.Printed.{Appends, field, span_line};
-ghost use Rattle.load.specs.JudgementLines.{members, bays_line, completed_lines, judged_bytes, judgement_bytes, refused_bytes};
+ghost use Rattle.load.specs.Printed.{Appends, finished_lines, report_bytes};
+ghost use Rattle.load.specs.JudgementLines.{members, completed_lines, judged_bytes, judgement_bytes, refused_bytes};
 
-use super::judgement::{Completed, Judgement};
+use super::judgement::Judgement;
 use super::names::write_next;
-use super::print::{list_line, number_line, push_field, push_signed, push_text};
 use super::refusal::LoadRefusal;
-use sheet::{Bays, Span};
+use super::report::{Finished, Report, write_refusal, write_report};
+use sheet::Bays;
 use std::alloc::AllocError;
 use text::Kind;
 
@@ -20,74 +19,61 @@ const BAYS: u8 = 64;
 fn front(list: &[u16], count: usize) -> &[u16]
     ensures { result.now ≡ take count list.now }
 {
-    if count < list.len() {
-        return &list[0..count];
-    }
-    list
+    &list[..count.min(list.len())]
 }
 
-// The line of the least and the greatest correction.
-fn write_corrections(out: &mut Vec<u8>, span: &Span) -> Result<(), AllocError>
-    ensures { Appends (span_line span.now.low span.now.high) out.old out.new result }
+// Writes the bays of a set, rising, to the front of a buffer, and says how many they are.
+fn list_bays(bays: &Bays, list: &mut [u16; 64]) -> usize
+    ensures within { result ≤ 64 }
+    ensures listed { take result list.new ≡ members (bays_of bays.now) 64 }
 {
-    push_text(out, b"span")?;
-    push_signed(out, span.low)?;
-    push_signed(out, span.high)?;
-    push_text(out, b"\n")
-}
-
-// Puts a space and a bay behind what is there, for each of a set, rising.
-fn push_bays(out: &mut Vec<u8>, bays: &Bays) -> Result<(), AllocError>
-    ensures { Appends (flat_map field (members (bays_of bays.now) 64)) out.old out.new result }
-{
+    // kept: a list on the heap could fail where there is room for the printed lines
+    let mut count = 0;
     for bay in 0..BAYS {
         if bays.holds(bay) {
-            push_field(out, usize::from(bay))?;
+            list[count] = u16::from(bay);
+            count += 1;
         }
     }
-    Ok(())
+    count
 }
 
-// The line of the bays that every reading asks for.
-fn write_bays(out: &mut Vec<u8>, bays: &Bays) -> Result<(), AllocError>
-    ensures { Appends (bays_line (bays_of bays.now)) out.old out.new result }
+// The report of a judgement, with what its sheet has where it has a reading.
+fn report_of<'a>(judgement: &Judgement, finished: Option<Finished<'a>>) -> Report<'a>
+    ensures { (reading : List ℕ) → finished_lines finished.entry ≡ completed_lines reading judgement.now.finished
+        → report_bytes result ≡ judged_bytes reading judgement.now }
 {
-    push_text(out, b"bays")?;
-    push_bays(out, bays)?;
-    push_text(out, b"\n")
+    let counts = judgement.counts;
+    Report {
+        items: counts.items,
+        vertices: counts.vertices,
+        width: counts.width,
+        cuts: counts.cuts,
+        stamps: judgement.stamps,
+        fewest: judgement.fewest,
+        most: judgement.most,
+        finished,
+    }
 }
 
-// The lines of a sheet that has a reading.
-fn write_completed(
-    out: &mut Vec<u8>,
-    completed: &Completed,
-    reading: &[u16],
-) -> Result<(), AllocError>
-    ensures { Appends (completed_lines reading.now (Some completed.now)) out.old out.new result }
-{
-    write_corrections(out, &completed.amount.first)?;
-    write_bays(out, &completed.amount.second)?;
-    list_line(out, b"reading", front(reading, completed.leaves))
-}
-
-// Puts the first five lines behind what is there; where the stamps have no reading, the last three of them end in ` -`.
+// Puts the first five lines behind what is there.
 fn write_judged(out: &mut Vec<u8>, judgement: &Judgement, reading: &[u16]) -> Result<(), AllocError>
     ensures { Appends (judged_bytes reading.now judgement.now) out.old out.new result }
 {
-    let counts = judgement.counts;
-    number_line(
-        out,
-        b"plan",
-        &[counts.items, counts.vertices, counts.width, counts.cuts],
-    )?;
-    number_line(
-        out,
-        b"stamps",
-        &[judgement.stamps, judgement.fewest, judgement.most],
-    )?;
+    let mut list = [0; 64];
+    // kept: of a `map` or an assignment the borrow checker does not follow `Finished`, whose two lists live for two lifetimes
     match &judgement.finished {
-        Some(completed) => write_completed(out, completed, reading),
-        None => push_text(out, b"span -\nbays -\nreading -\n"),
+        Some(completed) => {
+            let count = list_bays(&completed.amount.second, &mut list);
+            let finished = Finished {
+                low: completed.amount.first.low,
+                high: completed.amount.first.high,
+                bays: &list[..count],
+                reading: front(reading, completed.leaves),
+            };
+            write_report(out, &report_of(judgement, Some(finished)))
+        }
+        None => write_report(out, &report_of(judgement, None)),
     }
 }
 
@@ -110,5 +96,5 @@ pub fn write_refused(out: &mut Vec<u8>, refusal: LoadRefusal) -> Result<(), Allo
     ensures { Appends (refused_bytes refusal) out.old out.new result }
 {
     let (number, place) = refusal.number_and_place();
-    number_line(out, b"refused", &[usize::from(number), place])
+    write_refusal(out, number, place)
 }

@@ -4,9 +4,10 @@ ghost use Rattle.load.specs.LoadRefusals.{load_code, counted_from, place_of};
 
 use super::trailer::FileRefusal;
 use plan::Refusal;
+use std::alloc::AllocError;
 
 /// Why a load file is refused.
-#[derive(Clone, Copy)]
+#[derive(Clone, Copy, PartialEq, Eq)]
 pub enum LoadRefusal {
     /// A buffer is shorter than this length.
     Short(usize),
@@ -21,12 +22,14 @@ pub enum LoadRefusal {
 }
 
 impl LoadRefusal {
+    // kept: the numbers are those that are printed
     /// Its number, and the place, length or width that goes with it.
     pub fn number_and_place(self) -> (u8, usize)
         ensures { result ≡ load_code self }
     {
         match self {
             LoadRefusal::Short(length) => (9, length),
+            // kept: the two refusals are of two types, so no one pattern binds both
             LoadRefusal::File(refusal) => refusal.number_and_place(),
             LoadRefusal::Plan(refusal) => refusal.number_and_place(),
             LoadRefusal::Unnamed(place) => (3, place),
@@ -36,11 +39,21 @@ impl LoadRefusal {
 }
 
 /// What judging a load file may end with instead of a judgement.
-#[derive(Clone, Copy)]
+#[derive(Clone, Copy, PartialEq, Eq)]
 pub enum LoadError {
     Refused(LoadRefusal),
     /// There is not enough memory; only where neither the file's frame nor its plan is refused.
-    Memory,
+    Memory(AllocError),
+}
+
+impl From<LoadRefusal> for LoadError {
+    ghost use Rattle.load.specs.declared.refusal.LoadError.TheVariants.{Refused};
+
+    ghost from_gives = { λ x y. y ≡ Refused x };
+
+    fn from(refusal: LoadRefusal) -> LoadError {
+        LoadError::Refused(refusal)
+    }
 }
 
 // A plan's refusal with its place counted from the start of the file, in which the plan stands at a place.
@@ -54,10 +67,10 @@ pub fn counted_from(refusal: Refusal, start: usize) -> Refusal
         Refusal::Mark(place) => Refusal::Mark(start + place),
         Refusal::Depth(place) => Refusal::Depth(start + place),
         Refusal::Many(place) => Refusal::Many(start + place),
-        Refusal::Short(length) => Refusal::Short(length),
-        Refusal::Length => Refusal::Length,
-        Refusal::Width(width) => Refusal::Width(width),
-        Refusal::Cuts => Refusal::Cuts,
-        Refusal::Twice(number) => Refusal::Twice(number),
+        Refusal::Short(_)
+        | Refusal::Length
+        | Refusal::Width(_)
+        | Refusal::Cuts
+        | Refusal::Twice(_) => refusal,
     }
 }

@@ -2,7 +2,7 @@
 ghost use Rattle.std.specs.Prelude.{◌++◌, Some};
 ghost use Rattle.load.specs.Printed.{Appends, span_line, finished_lines, report_bytes, refusal_line};
 
-use super::print::{list_line, number_line, push_signed, push_text};
+use super::print::{number_line, push_signed, push_text};
 use std::alloc::AllocError;
 
 /// What a sheet has whose stamps are a log of the plan.
@@ -18,6 +18,7 @@ pub struct Finished<'a> {
     pub reading: &'a [u16],
 }
 
+// kept: the definitions of printed lines read these fields, as those of `Finished`
 /// What is printed of a load file that is not refused, up to the names that may follow.
 #[derive(Clone, Copy)]
 pub struct Report<'a> {
@@ -50,8 +51,8 @@ fn write_finished(out: &mut Vec<u8>, finished: &Finished) -> Result<(), AllocErr
     ensures { Appends (finished_lines (Some finished.now)) out.old out.new result }
 {
     write_span(out, finished)?;
-    list_line(out, b"bays", finished.bays)?;
-    list_line(out, b"reading", finished.reading)
+    number_line(out, b"bays", finished.bays)?;
+    number_line(out, b"reading", finished.reading)
 }
 
 /// Puts the first five lines behind what is there; where the stamps have no reading, the last three of them end in ` -`.

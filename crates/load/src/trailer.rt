@@ -11,7 +11,7 @@ const TRAILER: usize = 19;
 const LONGEST: usize = 8192;
 
 /// Where a load file's plan and stamp lines stand.
-#[derive(Clone, Copy)]
+#[derive(Clone, Copy, Debug, PartialEq, Eq)]
 pub struct Frame {
     /// The plan's place.
     pub plan: usize,
@@ -22,7 +22,7 @@ pub struct Frame {
 }
 
 /// Why a file is no load file.
-#[derive(Clone, Copy)]
+#[derive(Clone, Copy, Debug, PartialEq, Eq)]
 pub enum FileRefusal {
     /// It is too long, or does not end in a trailer.
     Malformed,
@@ -31,6 +31,7 @@ pub enum FileRefusal {
 }
 
 impl FileRefusal {
+    // kept: the numbers are those that are printed
     /// Its number, and the place that goes with it.
     pub fn number_and_place(self) -> (u8, usize)
         ensures { result ≡ file_code self }
@@ -54,6 +55,7 @@ fn four_digits(bytes: &[u8]) -> Option<usize>
         if !is_digit(*b) {
             return None;
         }
+        // kept: four digits may have zeros in front, which `text::number` refuses
         n = 10 * n + usize::from(*b - b'0');
     }
     Some(n)
@@ -64,38 +66,20 @@ fn is_ruled(tail: &[u8]) -> bool
     requires { length tail.now ≡ 19 }
     ensures { result ≡ ruled tail.now }
 {
-    tail[0] == b'e'
-        && tail[1] == b'n'
-        && tail[2] == b'd'
-        && tail[3] == b' '
-        && tail[8] == b' '
-        && tail[13] == b' '
-        && tail[18] == b'\n'
+    tail.starts_with(b"end ") && tail[8] == b' ' && tail[13] == b' ' && tail[18] == b'\n'
 }
 
 // What a trailer says, if the bytes are one.
 fn trailer_of(tail: &[u8]) -> Option<Frame>
     ensures { MatchOption result ((t : Frame) → Trailer tail.now t → ⊥) (λ t. Trailer tail.now t) }
 {
-    if tail.len() != TRAILER {
+    if tail.len() != TRAILER || !is_ruled(tail) {
         return None;
     }
-    if !is_ruled(tail) {
-        return None;
-    }
-    let Some(plan) = four_digits(&tail[4..8]) else {
-        return None;
-    };
-    let Some(stamps) = four_digits(&tail[9..13]) else {
-        return None;
-    };
-    let Some(count) = four_digits(&tail[14..18]) else {
-        return None;
-    };
     Some(Frame {
-        plan,
-        stamps,
-        count,
+        plan: four_digits(&tail[4..8])?,
+        stamps: four_digits(&tail[9..13])?,
+        count: four_digits(&tail[14..18])?,
     })
 }
 
@@ -111,10 +95,7 @@ fn fits(file: &[u8], frame: Frame) -> bool
     if file[frame.stamps - 1] != b'\n' {
         return false;
     }
-    match count_lines(&file[0..end], frame.stamps) {
-        Some(n) => n == frame.count,
-        None => false,
-    }
+    count_lines(&file[..end], frame.stamps) == Some(frame.count)
 }
 
 /// Where a load file's plan and stamp lines stand, as its trailer says, which must fit the file.
@@ -125,9 +106,7 @@ pub fn frame_of(file: &[u8]) -> Result<Frame, FileRefusal>
     if len < TRAILER || len > LONGEST {
         return Err(FileRefusal::Malformed);
     }
-    let Some(frame) = trailer_of(&file[len - TRAILER..len]) else {
-        return Err(FileRefusal::Malformed);
-    };
+    let frame = trailer_of(&file[len - TRAILER..]).ok_or(FileRefusal::Malformed)?;
     if fits(file, frame) {
         Ok(frame)
     } else {
@@ -136,20 +115,15 @@ pub fn frame_of(file: &[u8]) -> Result<Frame, FileRefusal>
 }
 
 /// A file ends in one trailer at most, so its frame is the only one.
-pub fn one_trailer() -> bool
+pub fn one_trailer()
     ensures { OneTrailer }
-{
-    true
-}
+{}
 
 /// A file without its trailer: what `next_line` goes through, from the first stamp line's place on.
 pub fn body_of(file: &[u8]) -> &[u8]
     ensures { result.now ≡ body file.now }
 {
-    if file.len() < TRAILER {
-        return &file[0..0];
-    }
-    &file[0..file.len() - TRAILER]
+    &file[..file.len().saturating_sub(TRAILER)]
 }
 
 // The plan of a file whose trailer fits.
@@ -157,14 +131,10 @@ pub fn plan_of(file: &[u8], frame: Frame) -> &[u8]
     requires { Fits file.now frame }
     ensures { result.now ≡ plan_text file.now frame }
 {
-    let plan = frame.plan;
-    let end = frame.stamps - 1;
-    &file[plan..end]
+    &file[frame.plan..frame.stamps - 1]
 }
 
 /// From the first stamp line's place of a file whose trailer fits, line after line leads to the trailer, in as many steps as it says.
-pub fn lines_walked() -> bool
+pub fn lines_walked()
     ensures { LinesWalked }
-{
-    true
-}
+{}

@@ -2,83 +2,34 @@
 //! reading each answers.
 #![tactic(auto)]
 
-ghost use Rattle.std.specs.Prelude.{◌≤◌, length};
-
-use plan::{Plan, PlanError, parse};
+use plan::parse;
+use show::{Lines, names_of, show_counts, show_error};
 use std::io;
 use std::io::Read;
 use text::{Badge, Kind, Word};
 
-// Where a line ends.
-fn line_end(bytes: &[u8], from: usize) -> usize
-    requires { from ≤ length bytes.now }
-    ensures forward { from ≤ result }
-    ensures within { result ≤ length bytes.now }
-{
-    let mut end = from;
-    while end < bytes.len() && bytes[end] != b'\n' {
-        end += 1;
+// What reading a plan answers; a text whose name fills the room for names.
+fn show<K: Kind>(rt: &HostRuntime, filler: &[u8], text: &[u8]) -> io::Result<()> {
+    let mut names = names_of::<K>(rt.alloc(), filler)?;
+    match parse(rt.alloc(), text, names.as_mut_slice()) {
+        Ok(plan) => show_counts(rt, &plan.counts()),
+        Err(error) => show_error(rt, error),
     }
-    end
-}
-
-// Items, vertices, width and cuts.
-fn show_plan(rt: &HostRuntime, plan: &Plan) -> io::Result<()> {
-    let items = plan.outline(rt.alloc())?.len();
-    let vertices = items.saturating_mul(2);
-    let size = plan.size();
-    let width = size.width();
-    let cuts = size.cuts();
-    println!(rt; "plan {items} {vertices} {width} {cuts}")
-}
-
-fn show<K: Kind>(rt: &HostRuntime, text: &[u8], names: &mut [K]) -> io::Result<()> {
-    match parse(rt.alloc(), text, names) {
-        Ok(plan) => show_plan(rt, &plan),
-        Err(PlanError::Refused(refusal)) => {
-            let (number, place) = refusal.number_and_place();
-            println!(rt; "refused {number} {place}")
-        }
-        Err(PlanError::Memory) => println!(rt; "no memory"),
-    }
-}
-
-fn show_words(rt: &HostRuntime, text: &[u8]) -> io::Result<()> {
-    let Some(name) = Word::of_text(b"a") else {
-        return Ok(());
-    };
-    let mut names = [name; 128];
-    show(rt, text, &mut names)
-}
-
-fn show_badges(rt: &HostRuntime, text: &[u8]) -> io::Result<()> {
-    let Some(name) = Badge::of_text(b"0") else {
-        return Ok(());
-    };
-    let mut names = [name; 128];
-    show(rt, text, &mut names)
 }
 
 fn answer(rt: &HostRuntime, line: &[u8]) -> io::Result<()> {
-    if line.len() < 2 {
-        return println!(rt; "no kind");
-    }
-    if line[0] == b'w' {
-        show_words(rt, &line[2..])
-    } else {
-        show_badges(rt, &line[2..])
+    match line {
+        [b'w', _, text @ ..] => show::<Word>(rt, b"a", text),
+        [_, _, text @ ..] => show::<Badge>(rt, b"0", text),
+        _ => println!(rt; "no kind"),
     }
 }
 
 fn main(rt: HostRuntime) -> io::Result<()> {
     let mut input = Vec::new(rt.alloc());
     rt.stdin().read_to_end(&mut input)?;
-    let bytes = input.as_slice();
-    let mut at = 0;
-    while at < bytes.len() {
-        let end = line_end(bytes, at);
-        answer(&rt, &bytes[at..end])?;
-        at = end + 1;
+    for line in Lines::new(input.as_slice(), 0) {
+        answer(&rt, line.text)?;
     }
     Ok(())
 }

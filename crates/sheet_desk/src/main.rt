@@ -2,10 +2,10 @@
 //! counts, and each call with its answer.
 #![tactic(auto)]
 
-use show::{Buffers, line_at, run};
+use show::{Buffers, line_at, names_of, run};
 use std::io;
 use std::io::Read;
-use text::{Kind, Word};
+use text::Word;
 
 const USAGE: &str =
     "sheet_desk: no input; the first line is a plan's text, and each further line one of: stamp NAME, strike, next, distance, amount, reading";
@@ -17,10 +17,14 @@ fn main(rt: HostRuntime) -> io::Result<()> {
     let Some(plan) = line_at(text, 0) else {
         return println!(rt; "{USAGE}");
     };
-    let Some(name) = Word::of_text(b"a") else {
-        return Ok(());
-    };
-    let mut names = [name; 128];
+    let mut names = names_of::<Word>(rt.alloc(), b"a")?;
     let mut buffers = Buffers::new(rt.alloc())?;
-    run(&rt, plan.bytes, text, plan.next, &mut names, &mut buffers)
+    run(
+        &rt,
+        plan.text,
+        text,
+        plan.next,
+        names.as_mut_slice(),
+        &mut buffers,
+    )
 }

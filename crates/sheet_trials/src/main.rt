@@ -4,7 +4,7 @@
 
 ghost use Rattle.std.specs.Prelude.{◌+◌, ◌≤◌, length};
 
-use show::{Buffers, Line, line_at, run};
+use show::{Buffers, Line, Lines, line_at, names_of, run};
 use std::io;
 use std::io::Read;
 use text::{Badge, Kind, Word};
@@ -15,50 +15,33 @@ fn block_end(text: &[u8], from: usize) -> usize
     ensures forward { from ≤ result + 1 }
     ensures within { result ≤ length text.now }
 {
-    let mut at = from;
-    while let Some(line) = line_at(text, at) {
-        if line.bytes.len() == 0 {
-            return at;
+    for line in Lines::new(text, from) {
+        if line.text.is_empty() {
+            return line.at;
         }
-        at = line.next;
     }
     text.len()
 }
 
-fn try_words(
+// A plan over the kind's names, with the call lines from a place on; a text whose name fills the room for names.
+fn try_plan<K: Kind>(
     rt: &HostRuntime,
+    filler: &[u8],
     plan: &[u8],
     text: &[u8],
     from: usize,
     buffers: &mut Buffers,
 ) -> io::Result<()> {
-    let Some(name) = Word::of_text(b"a") else {
-        return Ok(());
-    };
-    let mut names = [name; 128];
-    run(rt, plan, text, from, &mut names, buffers)
-}
-
-fn try_badges(
-    rt: &HostRuntime,
-    plan: &[u8],
-    text: &[u8],
-    from: usize,
-    buffers: &mut Buffers,
-) -> io::Result<()> {
-    let Some(name) = Badge::of_text(b"0") else {
-        return Ok(());
-    };
-    let mut names = [name; 128];
-    run(rt, plan, text, from, &mut names, buffers)
+    let mut names = names_of::<K>(rt.alloc(), filler)?;
+    run(rt, plan, text, from, names.as_mut_slice(), buffers)
 }
 
 // One block: the text ends with it.
 fn try_block(rt: &HostRuntime, text: &[u8], first: &Line, buffers: &mut Buffers) -> io::Result<()> {
-    if let Some(plan) = first.bytes.strip_prefix(b"w ") {
-        try_words(rt, plan, text, first.next, buffers)
-    } else if let Some(plan) = first.bytes.strip_prefix(b"b ") {
-        try_badges(rt, plan, text, first.next, buffers)
+    if let Some(plan) = first.text.strip_prefix(b"w ") {
+        try_plan::<Word>(rt, b"a", plan, text, first.next, buffers)
+    } else if let Some(plan) = first.text.strip_prefix(b"b ") {
+        try_plan::<Badge>(rt, b"0", plan, text, first.next, buffers)
     } else {
         println!(rt; "no kind")
     }
@@ -70,9 +53,10 @@ fn main(rt: HostRuntime) -> io::Result<()> {
     let mut buffers = Buffers::new(rt.alloc())?;
     let text = input.as_slice();
     let mut at = 0;
+    // kept: only `main` goes over blocks, and an iterator for them alone is longer
     while let Some(line) = line_at(text, at) {
         let end = block_end(text, line.next);
-        try_block(&rt, &text[0..end], &line, &mut buffers)?;
+        try_block(&rt, &text[..end], &line, &mut buffers)?;
         at = end + 1;
     }
     Ok(())

@@ -1,5 +1,5 @@
 -- Turns of the calls that lines ask for.
-use Rattle.std.proofs.Common.{◌≡◌, ℕ, ◌+◌, ◌<◌, Bool, true, false, List, [], ◌∷◌, map, length, get_or, drop, Some, None, Option, sym, refl, ap, ◌∙◌, subst, inl, inr, true≢false, arith}
+use Rattle.std.proofs.Common.{◌≡◌, ℕ, ◌+◌, ◌<◌, Bool, true, false, List, [], ◌∷◌, map, length, get_or, drop, Some, None, Ok, Err, Option, sym, refl, ap, ◌∙◌, subst, inl, inr, true≢false, arith}
 use Rattle.std.proofs.lemmas.Bool.{cases_lt}
 use Rattle.text.specs.Bytes.{between}
 use Rattle.sheet.specs.declared.words.Answer.{Answer}
@@ -9,10 +9,9 @@ use Rattle.sheet.specs.declared.words.Turn.{Turn}
 use Rattle.sheet.specs.Played.{calls_of}
 use Rattle.sheet.specs.Runs.{Asked}
 use Rattle.show.specs.Lines.{Lies}
-use Rattle.show.specs.Asking.{stamp_line, call_line, Asks, Idle, Finds, over, here, later, Called, more}
+use Rattle.show.specs.Asking.{stamp_line, call_line, Request, Asks, Idle, Finds, over, here, later, Called, more}
 use Rattle.show.specs.Scripts.{Goes, Takes}
-use Rattle.show.specs.declared.requests.Request.{Request}
-use Rattle.show.specs.declared.requests.Request.TheVariants.{Nothing, For, NoName, NoCall}
+use Rattle.show.specs.declared.requests.LineError.TheVariants.{NoName, NoCall}
 use Rattle.show.specs.declared.script.Script.{Script}
 
 -- a line has one end
@@ -44,11 +43,11 @@ module _ {K : Type 0} (text : K → List ℕ) (has : List ℕ → Bool) (named :
   not_unnamed (Reading x) s e h = omega (arith, ap (λ (l : List ℕ). get_or l 0 0) e)
 
   -- a line that asks for a call asks for nothing else
-  busy : (line : List ℕ) (call : Call K) (a : Request K) → Asks text has line (For call) → Asks text has line a → Idle a → ⊥
-  busy line call Nothing p q i = not_empty call (sym p.0 ∙ q)
-  busy line call (For c) p q i = i
-  busy line call NoName p q i = not_unnamed call q.0 (sym p.0 ∙ q.1) q.2
-  busy line call NoCall p q i = q.2 call p.0
+  busy : (line : List ℕ) (call : Call K) (a : Request K) → Asks text has line (Ok (Some call)) → Asks text has line a → Idle a → ⊥
+  busy line call (Ok None) p q i = not_empty call (sym p.0 ∙ q)
+  busy line call (Ok (Some c)) p q i = i
+  busy line call (Err NoName) p q i = not_unnamed call q.0 (sym p.0 ∙ q.1) q.2
+  busy line call (Err NoCall) p q i = q.2 call p.0
 
   abbrev SameNext : Option (Call K × ℕ) → ℕ → Type 0
   SameNext None n = ⊥
@@ -61,7 +60,7 @@ module _ {K : Type 0} (text : K → List ℕ) (has : List ℕ → Bool) (named :
     one_next at None call n (over h) (later e q l a i f) = omega (arith, h, l.0)
     one_next at (Some p) call n (here e l a k) (here f m b j) = k ∙ (ap (λ (x : ℕ). x + 1) (one_end t at e f l m) ∙ sym j)
     one_next at (Some p) call n (here e l a k) (later f q m b i g) = absurd (busy (between t at e) p.0 q a (subst (λ (x : ℕ). Asks text has (between t at x) q) (one_end t at f e m l) b) i)
-    one_next at r call n (later e q l a i g) (here f m b j) = absurd (busy (between t at e) call q (subst (λ (x : ℕ). Asks text has (between t at x) (For call)) (one_end t at f e m l) b) a i)
+    one_next at r call n (later e q l a i g) (here f m b j) = absurd (busy (between t at e) call q (subst (λ (x : ℕ). Asks text has (between t at x) (Ok (Some call))) (one_end t at f e m l) b) a i)
     one_next at r call n (later e q l a i g) (later f s m b j h) = one_next (e + 1) r call n g (subst (λ (x : ℕ). Finds text has t (x + 1) (Some (call, n))) (one_end t at f e m l) h)
 
     -- one turn, and those behind it

@@ -1,3 +1,5 @@
 pub mod Lines
+pub mod LineSteps
 pub mod Asking
 pub mod Scripts
+pub mod Rooms

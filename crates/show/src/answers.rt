@@ -1,18 +1,16 @@
 //! The printed line of a turn: the call, and what it was answered.
-use sheet::{Answer, Bays, Call, Listing, Pair, Refusal, Span, Turn};
+ghost use Rattle.std.specs.Result.{ForOk};
+
+use sheet::{Answer, Bays, Call, Pair, Refusal, Span, Turn};
 use std::io;
+use std::io::Write;
 use text::Kind;
 
-fn print_name<K: Kind>(rt: &HostRuntime, name: &K) -> io::Result<()> {
+/// Prints a name's text.
+pub fn print_name<K: Kind>(rt: &HostRuntime, name: &K) -> io::Result<()> {
     let mut buffer = [0; 12];
-    if let Some(n) = name.write(&mut buffer) {
-        if n <= buffer.len() {
-            if let Ok(text) = std::str::from_utf8(&buffer[0..n]) {
-                print!(rt; "{text}")?;
-            }
-        }
-    }
-    Ok(())
+    let n = name.write(&mut buffer).unwrap();
+    rt.stdout().write_all(&buffer[..n])
 }
 
 fn print_call<K: Kind>(rt: &HostRuntime, call: &Call<K>) -> io::Result<()> {
@@ -30,72 +28,50 @@ fn print_call<K: Kind>(rt: &HostRuntime, call: &Call<K>) -> io::Result<()> {
     }
 }
 
-fn show_refusal(rt: &HostRuntime, refusal: Refusal) -> io::Result<()> {
-    let (number, length) = refusal.code();
-    println!(rt; " refused {number} {length}")
-}
-
-fn show_done(rt: &HostRuntime, res: Result<(), Refusal>, done: &str) -> io::Result<()> {
+// Prints what was found, or why the call was refused.
+fn show_result<T, F: FnOnce(T) -> io::Result<()>>(
+    rt: &HostRuntime,
+    res: Result<T, Refusal>,
+    show: F,
+) -> io::Result<()>
+    requires { ForOk res (F.pre show) }
+{
     match res {
-        Ok(()) => println!(rt; " {done}"),
-        Err(refusal) => show_refusal(rt, refusal),
+        Ok(found) => show(found)?,
+        Err(refusal) => {
+            let (number, length) = refusal.code();
+            print!(rt; " refused {number} {length}")?;
+        }
     }
+    println!(rt; "")
 }
 
 // The texts of the names of these numbers.
-fn show_names<K: Kind>(
-    rt: &HostRuntime,
-    names: &[K],
-    res: Result<Listing, Refusal>,
-) -> io::Result<()> {
-    match res {
-        Ok(listing) => {
-            for number in listing.list() {
-                if let Some(name) = names.get(usize::from(*number)) {
-                    print!(rt; " ")?;
-                    print_name(rt, name)?;
-                }
-            }
-            println!(rt; "")
+fn print_names<K: Kind>(rt: &HostRuntime, names: &[K], list: &[u16]) -> io::Result<()> {
+    for number in list {
+        if let Some(name) = names.get(usize::from(*number)) {
+            print!(rt; " ")?;
+            print_name(rt, name)?;
         }
-        Err(refusal) => show_refusal(rt, refusal),
     }
+    Ok(())
 }
 
-fn show_distance(rt: &HostRuntime, res: Result<(u16, u16), Refusal>) -> io::Result<()> {
-    match res {
-        Ok((fewest, most)) => println!(rt; " {fewest} {most}"),
-        Err(refusal) => show_refusal(rt, refusal),
+fn print_amount(rt: &HostRuntime, amount: &Pair<Span, Bays>) -> io::Result<()> {
+    let low = amount.first.low;
+    let high = amount.first.high;
+    print!(rt; " span {low} {high} bays")?;
+    for bay in (0..64u8).filter(|bay| amount.second.holds(*bay)) {
+        print!(rt; " {bay}")?;
     }
+    Ok(())
 }
 
-fn show_amount(rt: &HostRuntime, res: Result<Pair<Span, Bays>, Refusal>) -> io::Result<()> {
-    match res {
-        Ok(amount) => {
-            let low = amount.first.low;
-            let high = amount.first.high;
-            print!(rt; " span {low} {high} bays")?;
-            for bay in 0..64u8 {
-                if amount.second.holds(bay) {
-                    print!(rt; " {bay}")?;
-                }
-            }
-            println!(rt; "")
-        }
-        Err(refusal) => show_refusal(rt, refusal),
+fn print_leaves(rt: &HostRuntime, leaves: &[u16]) -> io::Result<()> {
+    for leaf in leaves {
+        print!(rt; " {leaf}")?;
     }
-}
-
-fn show_reading(rt: &HostRuntime, res: Result<Listing, Refusal>) -> io::Result<()> {
-    match res {
-        Ok(listing) => {
-            for leaf in listing.list() {
-                print!(rt; " {leaf}")?;
-            }
-            println!(rt; "")
-        }
-        Err(refusal) => show_refusal(rt, refusal),
-    }
+    Ok(())
 }
 
 /// Prints a call and its answer in one line.
@@ -107,11 +83,17 @@ pub fn show_turn<K: Kind>(
     print_call(rt, &turn.call)?;
     match turn.answer {
         Answer::Opened => println!(rt; ""),
-        Answer::Stamped(result) => show_done(rt, result, "taken"),
-        Answer::Struck(result) => show_done(rt, result, "struck"),
-        Answer::Listed(result) => show_names(rt, names, result),
-        Answer::Measured(result) => show_distance(rt, result),
-        Answer::Weighed(result) => show_amount(rt, result),
-        Answer::Read(result) => show_reading(rt, result),
+        Answer::Stamped(result) => show_result(rt, result, |()| print!(rt; " taken")),
+        Answer::Struck(result) => show_result(rt, result, |()| print!(rt; " struck")),
+        Answer::Listed(result) => {
+            show_result(rt, result, |listing| print_names(rt, names, listing.list()))
+        }
+        Answer::Measured(result) => {
+            show_result(rt, result, |(fewest, most)| print!(rt; " {fewest} {most}"))
+        }
+        Answer::Weighed(result) => show_result(rt, result, |amount| print_amount(rt, &amount)),
+        Answer::Read(result) => {
+            show_result(rt, result, |listing| print_leaves(rt, listing.list()))
+        }
     }
 }

@@ -16,16 +16,10 @@ impl Buffers {
     pub fn new(heap: Global) -> Result<Buffers, AllocError>
         ensures { IfOk result (λ b. (vec_len b.list ≡ 128) × (vec_len b.numbers ≡ 32768) × (vec_len b.amounts ≡ 8192)) }
     {
-        let list = vec![in heap; 0u16; 128]?;
-        let numbers = vec![in heap; 0u16; 32768]?;
-        let mut amounts = Vec::with_capacity(heap, 8192)?;
-        for _ in 0..8192usize {
-            amounts.push(Pair::<Span, Bays>::begin())?;
-        }
         Ok(Buffers {
-            list,
-            numbers,
-            amounts,
+            list: vec![in heap; 0; 128]?,
+            numbers: vec![in heap; 0; 32768]?,
+            amounts: vec![in heap; Scale::begin(); 8192]?,
         })
     }
 }

@@ -4,11 +4,10 @@ use std::io;
 
 /// Prints what is told of a plan.
 pub fn show_counts(rt: &HostRuntime, counts: &Counts) -> io::Result<()> {
-    let items = counts.items;
-    let vertices = counts.vertices;
-    let width = counts.width;
-    let cuts = counts.cuts;
-    println!(rt; "plan {items} {vertices} {width} {cuts}")
+    println!(rt;
+        "plan {} {} {} {}",
+        counts.items, counts.vertices, counts.width, counts.cuts
+    )
 }
 
 /// Prints why there is no plan.
@@ -18,6 +17,6 @@ pub fn show_error(rt: &HostRuntime, error: PlanError) -> io::Result<()> {
             let (number, place) = refusal.number_and_place();
             println!(rt; "refused {number} {place}")
         }
-        PlanError::Memory => println!(rt; "no memory"),
+        PlanError::Memory(_) => println!(rt; "no memory"),
     }
 }

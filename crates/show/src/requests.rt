@@ -1,21 +1,19 @@
-ghost use Rattle.show.specs.Asking.{Asks, stamp_line};
+//! What a line asks of a sheet.
+ghost use Rattle.show.specs.Asking.{Asks, AsksFor};
 
 use sheet::{Call, Lengths};
 use text::Kind;
 
-/// What a line asks.
-#[derive(Drop)]
-pub enum Request<K> {
-    /// Nothing: it is blank.
-    Nothing,
-    /// A call, lent what calls need at most.
-    For(Call<K>),
-    /// A stamp of a text that no name has.
+/// Why a line asks for no call.
+#[derive(Clone, Copy, Debug, PartialEq, Eq)]
+pub enum LineError {
+    /// It is a stamp of a text that no name has.
     NoName,
-    /// None of the calls.
+    /// It is none of the calls.
     NoCall,
 }
 
+// kept: a public constant of `sheet` would say the three numbers that the definition of a full call writes out
 /// The lengths that calls need.
 const FULL: Lengths = Lengths {
     list: 128,
@@ -23,37 +21,36 @@ const FULL: Lengths = Lengths {
     amounts: 8192,
 };
 
-// What a stamp of a text asks.
-fn stamp_of<K: Kind>(name: &[u8]) -> Request<K>
-    ensures { Asks K.text K.has (stamp_line name.now) result }
+/// The call that a line asks for, lent what calls need at most; or nothing, if it is blank.
+pub fn request_of<K: Kind>(line: &[u8]) -> Result<Option<Call<K>>, LineError>
+    ensures { Asks K.text K.has line.now result }
 {
-    match K::of_text(name) {
-        Some(name) => Request::For(Call::Stamp(name, FULL)),
-        None => Request::NoName,
+    if line.is_empty() {
+        return Ok(None);
+    }
+    if let Some(name) = line.strip_prefix(b"stamp ") {
+        let name = K::of_text(name).ok_or(LineError::NoName)?;
+        return Ok(Some(Call::Stamp(name, FULL)));
+    }
+    // kept: a match on byte strings leaves its last arm open, as one goal of thirty branches
+    if line == b"strike".as_slice() {
+        Ok(Some(Call::Strike))
+    } else if line == b"next".as_slice() {
+        Ok(Some(Call::Next(FULL)))
+    } else if line == b"distance".as_slice() {
+        Ok(Some(Call::Distance(FULL)))
+    } else if line == b"amount".as_slice() {
+        Ok(Some(Call::Amount(FULL)))
+    } else if line == b"reading".as_slice() {
+        Ok(Some(Call::Reading(FULL)))
+    } else {
+        Err(LineError::NoCall)
     }
 }
 
-/// What a line asks.
-pub fn request_of<K: Kind>(line: &[u8]) -> Request<K>
-    ensures { Asks K.text K.has line.now result }
+/// The call that a line asks for, if it asks for one.
+pub fn call_of<K: Kind>(line: &[u8]) -> Option<Call<K>>
+    ensures { AsksFor K.text K.has line.now result }
 {
-    if line.len() == 0 {
-        return Request::Nothing;
-    }
-    if let Some(name) = line.strip_prefix(b"stamp ") {
-        return stamp_of(name);
-    }
-    if line == b"strike".as_slice() {
-        Request::For(Call::Strike)
-    } else if line == b"next".as_slice() {
-        Request::For(Call::Next(FULL))
-    } else if line == b"distance".as_slice() {
-        Request::For(Call::Distance(FULL))
-    } else if line == b"amount".as_slice() {
-        Request::For(Call::Amount(FULL))
-    } else if line == b"reading".as_slice() {
-        Request::For(Call::Reading(FULL))
-    } else {
-        Request::NoCall
-    }
+    request_of::<K>(line).ok().flatten()
 }

@@ -1,10 +1,11 @@
 //! A plan and call lines behind it: the plan is read, the calls are put to a sheet, and all is printed.
 use super::answers::show_turn;
 use super::buffers::Buffers;
-use super::lines::{Line, line_at};
+use super::lines::Lines;
 use super::plans::{show_counts, show_error};
-use super::requests::{Request, request_of};
+use super::requests::{LineError, request_of};
 use super::serving::serve_lines;
+use load::Line;
 use plan::{Plan, read};
 use sheet::{Bays, Pair, Span, Turn};
 use std::io;
@@ -17,17 +18,21 @@ fn print_bytes(rt: &HostRuntime, bytes: &[u8]) -> io::Result<()> {
             let c = *byte as char;
             print!(rt; "{c}")?;
         } else {
+            // kept: `escape_ascii` would print a tab as `\t` and put a backslash before a quote
             print!(rt; "\\x{byte:02x}")?;
         }
     }
     Ok(())
 }
 
+// The number of the refusal of a text that no name has.
+const NO_NAME: u8 = 3;
+
 // A stamp of a text that no name has: the place is that of the text's first byte.
 fn show_no_name(rt: &HostRuntime, line: &Line) -> io::Result<()> {
-    print_bytes(rt, line.bytes)?;
-    let place = line.at.saturating_add(6);
-    println!(rt; ": refused 3 {place}")
+    print_bytes(rt, line.text)?;
+    let place = line.at.saturating_add(b"stamp ".len());
+    println!(rt; ": refused {NO_NAME} {place}")
 }
 
 // Prints what each line was answered; turns are those of the lines that ask for a call.
@@ -38,24 +43,20 @@ fn show_lines<K: Kind>(
     names: &[K],
     turns: &[Turn<K, Pair<Span, Bays>>],
 ) -> io::Result<()> {
-    let mut at = from;
-    let mut number: usize = 2;
-    let mut done: usize = 0;
-    while let Some(line) = line_at(text, at) {
-        match request_of::<K>(line.bytes) {
-            Request::Nothing => {}
-            Request::For(_) => {
-                let Some(turn) = turns.get(done) else {
+    let mut turns = turns.iter();
+    for (i, line) in Lines::new(text, from).enumerate() {
+        let number = i.saturating_add(2);
+        match request_of::<K>(line.text) {
+            Ok(None) => {}
+            Ok(Some(_)) => {
+                let Some(turn) = turns.next() else {
                     return println!(rt; "line {number}: no memory");
                 };
                 show_turn(rt, names, turn)?;
-                done = done.saturating_add(1);
             }
-            Request::NoName => show_no_name(rt, &line)?,
-            Request::NoCall => println!(rt; "line {number}: no such call")?,
+            Err(LineError::NoName) => show_no_name(rt, &line)?,
+            Err(LineError::NoCall) => println!(rt; "line {number}: no such call")?,
         }
-        at = line.next;
-        number = number.saturating_add(1);
     }
     Ok(())
 }
@@ -70,6 +71,7 @@ fn run_lines<K: Kind>(
     buffers: &mut Buffers,
 ) -> io::Result<()> {
     let mut turns = Vec::new(rt.alloc());
+    // A call that could not be kept for want of memory has no turn, and is shown as `no memory`.
     let _ = serve_lines(
         text,
         from,

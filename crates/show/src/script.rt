@@ -1,21 +1,21 @@
+//! The calls that a text's lines ask for, in turn.
 ghost use Rattle.std.specs.Prelude.{◌≡◌};
 ghost use Rattle.show.specs.Asking.{Finds, Counted};
 ghost use Rattle.show.specs.Scripts.{Takes};
 
-use super::lines::line_at;
-use super::requests::{Request, request_of};
+use super::lines::Lines;
+use super::requests::call_of;
 use sheet::{Answer, Call, Clerk};
 use text::Kind;
 
+// kept: the definition `Takes` reads a script's `lines` and `at`, and so the calls on lines take a text and a place
 /// The first call that a line of a text asks for, from a place on, and where the next line begins.
 pub fn next_call<K: Kind>(text: &[u8], from: usize) -> Option<(Call<K>, usize)>
-    ensures { Finds K.Kind.text K.has text.now from result }
+    ensures { Finds K.text K.has text.now from result }
 {
-    let mut at = from;
-    while let Some(line) = line_at(text, at) {
-        at = line.next;
-        if let Request::For(call) = request_of::<K>(line.bytes) {
-            return Some((call, at));
+    for line in Lines::new(text, from) {
+        if let Some(call) = call_of::<K>(line.text) {
+            return Some((call, line.next));
         }
     }
     None
@@ -23,17 +23,18 @@ pub fn next_call<K: Kind>(text: &[u8], from: usize) -> Option<(Call<K>, usize)>
 
 /// How many calls the lines of a text ask for, from a place on.
 pub fn count_calls<K: Kind>(text: &[u8], from: usize) -> usize
-    ensures { Counted K.Kind.text K.has text.now from result }
+    ensures { Counted K.text K.has text.now from result }
 {
-    let mut at = from;
     let mut count = 0;
-    while let Some((_, next)) = next_call::<K>(text, at) {
-        at = next;
-        count += 1;
+    for line in Lines::new(text, from) {
+        if call_of::<K>(line.text).is_some() {
+            count += 1;
+        }
     }
     count
 }
 
+// kept: the definition `Takes` reads `lines` and `at`, so an iterator of lines does not stand for them
 /// Asks for the calls of a text's lines, one after another, and strikes once they are over.
 #[derive(Drop)]
 pub struct Script<'a> {

@@ -37,9 +37,9 @@ fn long_runs(rt: HostRuntime) {
 fn writing(rt: HostRuntime) {
     let mut buffer = *b"xxxxx";
     assert_eq!(rt; write_number(407, &mut buffer), Some(3));
-    assert!(rt; buffer == *b"407xx");
+    assert_eq!(rt; buffer, *b"407xx");
     assert_eq!(rt; write_number(0, &mut buffer), Some(1));
-    assert!(rt; buffer == *b"007xx");
+    assert_eq!(rt; buffer, *b"007xx");
     assert_eq!(rt; write_number(123456, &mut buffer), None);
-    assert!(rt; buffer == *b"007xx");
+    assert_eq!(rt; buffer, *b"007xx");
 }

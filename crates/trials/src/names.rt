@@ -1,42 +1,33 @@
 use std::test::Fail;
 use text::{Badge, Kind, Word};
 
-fn is_word(bytes: &[u8]) -> bool {
-    Word::of_text(bytes).is_some()
-}
-
-fn is_badge(bytes: &[u8]) -> bool {
-    Badge::of_text(bytes).is_some()
+// Whether a kind has a name of the text.
+fn is_named<K: Kind>(bytes: &[u8]) -> bool {
+    K::of_text(bytes).is_some()
 }
 
 // Whether a name of the text is there, and is written back as that text at the front of a buffer of 16.
 fn returns<K: Kind>(bytes: &[u8], whole: &[u8; 16]) -> bool {
     let mut buffer = *b"................";
-    match K::of_text(bytes) {
-        Some(name) => name.write(&mut buffer).is_some() && buffer == *whole,
-        None => false,
-    }
+    K::of_text(bytes).is_some_and(|name| name.write(&mut buffer).is_some()) && buffer == *whole
 }
 
 // Whether two texts have names, and these are the same.
 fn same<K: Kind>(one: &[u8], other: &[u8]) -> bool {
-    match K::of_text(one) {
-        Some(x) => match K::of_text(other) {
-            Some(y) => x.same(&y),
-            None => false,
-        },
-        None => false,
+    match (K::of_text(one), K::of_text(other)) {
+        (Some(x), Some(y)) => x.same(&y),
+        _ => false,
     }
 }
 
 #[test]
 fn words(rt: HostRuntime) {
-    assert!(rt; is_word(b"a"));
-    assert!(rt; is_word(b"abcdefghijkl"));
-    assert!(rt; !is_word(b"abcdefghijklm"));
-    assert!(rt; !is_word(b""));
-    assert!(rt; !is_word(b"a1"));
-    assert!(rt; !is_word(b"A"));
+    assert!(rt; is_named::<Word>(b"a"));
+    assert!(rt; is_named::<Word>(b"abcdefghijkl"));
+    assert!(rt; !is_named::<Word>(b"abcdefghijklm"));
+    assert!(rt; !is_named::<Word>(b""));
+    assert!(rt; !is_named::<Word>(b"a1"));
+    assert!(rt; !is_named::<Word>(b"A"));
     assert!(rt; returns::<Word>(b"weighin", b"weighin........."));
     assert!(rt; same::<Word>(b"front", b"front"));
     assert!(rt; !same::<Word>(b"front", b"fronts"));
@@ -44,12 +35,12 @@ fn words(rt: HostRuntime) {
 
 #[test]
 fn badges(rt: HostRuntime) {
-    assert!(rt; is_badge(b"0"));
-    assert!(rt; is_badge(b"65535"));
-    assert!(rt; !is_badge(b"65536"));
-    assert!(rt; !is_badge(b"07"));
-    assert!(rt; !is_badge(b""));
-    assert!(rt; !is_badge(b"1a"));
+    assert!(rt; is_named::<Badge>(b"0"));
+    assert!(rt; is_named::<Badge>(b"65535"));
+    assert!(rt; !is_named::<Badge>(b"65536"));
+    assert!(rt; !is_named::<Badge>(b"07"));
+    assert!(rt; !is_named::<Badge>(b""));
+    assert!(rt; !is_named::<Badge>(b"1a"));
     assert!(rt; returns::<Badge>(b"65535", b"65535..........."));
     assert!(rt; same::<Badge>(b"12", b"12"));
     assert!(rt; !same::<Badge>(b"12", b"120"));
@@ -57,12 +48,9 @@ fn badges(rt: HostRuntime) {
 
 #[test]
 fn short_buffer(rt: HostRuntime) -> Result<(), Fail> {
-    let Some(word) = Word::of_text(b"rear") else {
-        assert!(rt; false);
-        return Ok(());
-    };
+    let word = Word::of_text(b"rear").ok_or("a name")?;
     let mut buffer = *b"xyz";
     assert_eq!(rt; word.write(&mut buffer), None);
-    assert!(rt; buffer == *b"xyz");
+    assert_eq!(rt; buffer, *b"xyz");
     Ok(())
 }

@@ -1,30 +1,28 @@
-use Rattle.std.proofs.Common.{[], ◌∷◌, ◌++◌, length, sym, ap, ◌∙◌, arith}
-use Rattle.std.proofs.lemmas.List.{length_push}
-use Rattle.load.specs.Files.{Placed}
-use Rattle.load.proofs.Feeds.{walked_more, walked_all, walked_filled, walked_unfilled}
+use Rattle.std.proofs.Common.{[], ◌∷◌, length, drop, inl, ap, arith, length-drop}
+use Rattle.std.proofs.lemmas.Bool.Decides.{Decides-eqb}
+use Rattle.std.proofs.lemmas.Iterator.Consumers.{YieldsList-from_first, count_from_yields_List}
+use Rattle.std.proofs.lemmas.Slice.Eq.{ends_is}
+use Rattle.text.specs.Bools.{clash}
+use Rattle.load.specs.LinesLeft.{placed, lines_left}
+use Rattle.load.proofs.Feeds.{few_lines, all_lines, not_lines}
 use Rattle.load.proofs.lines.count_lines.Goals as goal
+use Rattle.load.proofs.lines.count_lines.Goals.{else-from-body-via-then-from-body+else-not-ends_with, else-from-body-via-else-from-body}
 
-pub loop-line-preserved : goal.loop-line-preserved
-loop-line-preserved c =
-    let n = c.in-Some.ensures in
-    let i = c.loop-line.invariant in
-    let x : Placed = (c.loop-line.at, c.in-Some.line.text.now) in (
-      omega (arith, n.2, i.0),
-      (
-        i.1.0 ++ (x ∷ []),
-        walked_more c.args.body.now c.args.from i.1.0 c.loop-line.at c.in-Some.line.next c.in-Some.line.text.now n.1 n.4 i.1.1,
-        omega (arith, i.1.2, length_push i.1.0 x),
-      ),
-    )
+pub returns-then-not-ends_with : goal.returns-then-not-ends_with
+returns-then-not-ends_with c =
+    not_lines c.args.body.now c.args.from _ c.if-from-body.true
+    (λ front e. clash ((ends_is Decides-eqb c.args.body.now (10 ∷ []) c.ends_with.result c.ends_with.ensures.value).1 front e) c.if-not-ends_with.true)
 
-pub returns-then-at-body : goal.returns-then-at-body
-returns-then-at-body c =
-    let i = c.loop-line.invariant in
-    walked_unfilled c.args.body.now c.args.from i.1.0 c.loop-line.at c.in_default.ensures c.if-at-body.true i.1.1
+pub count-requires-clause-fits : goal.count-requires-clause-fits
+count-requires-clause-fits c =
+    inl (omega (arith, few_lines c.args.from (drop c.args.from c.args.body.now), length-drop c.args.from c.args.body.now, ap length c.new.ensures, c.well_formed))
 
 pub returns : goal.returns
-returns c =
-    let i = c.loop-line.invariant in (
-      walked_filled c.args.body.now c.args.from i.1.0 c.loop-line.at c.in_default.ensures c.if-at-body.false i.1.1,
-      i.1.2 ∙ sym (ap length (walked_all c.args.body.now c.args.from i.1.0 c.loop-line.at c.in_default.ensures i.1.1)),
-    )
+returns c = (
+  all_lines c.args.body.now c.args.from (λ h.
+      elim c.else-from-body.branch [
+        | else-from-body-via-then-from-body+else-not-ends_with w ↦ (ends_is Decides-eqb c.args.body.now (10 ∷ []) w.ends_with.result w.ends_with.ensures.value).0 w.if-not-ends_with.false
+        | else-from-body-via-else-from-body w ↦ absurd (omega (arith, h, w.if-from-body.false))
+      ]),
+  count_from_yields_List c.new.result c.count.result c.count.ensures.ran (YieldsList-from_first placed lines_left _ c.new.ensures),
+)

@@ -1,11 +1,6 @@
-use Rattle.std.proofs.Common.{refl, ap, arith}
-use Rattle.std.proofs.lemmas.List.{drop_all}
-use Rattle.load.specs.Files.{lines_at}
+use Rattle.std.proofs.Common.{refl, arith}
 use Rattle.load.proofs.Feeds.{none_left, stands_line}
 use Rattle.load.proofs.lines.next_line.Goals as goal
-
-pub returns-then-at-body : goal.returns-then-at-body
-returns-then-at-body c = ap (lines_at c.args.at) (drop_all c.args.at c.args.body.now c.if-at-body.true)
 
 pub returns-then-end-body : goal.returns-then-end-body
 returns-then-end-body c = none_left c.args.body.now c.args.at c.feed_from-end.result c.feed_from-end.ensures c.if-end-body.true

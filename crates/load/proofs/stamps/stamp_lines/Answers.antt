@@ -1,67 +1,52 @@
-use Rattle.std.proofs.Common.{◌≡◌, true, [], ◌∷◌, ◌++◌, length, drop, sym, refl, ap, ◌∙◌, subst, arith}
+use Rattle.std.proofs.Common.{◌≡◌, true, false, [], ◌∷◌, ◌++◌, map, MatchOption, Err, sym, refl, ap, ◌∙◌, subst, append_assoc, arith, rules}
 use Rattle.std.proofs.lemmas.List.{length_push}
-use Rattle.sheet.specs.Calls.{Begins}
-use Rattle.sheet.specs.Views.{ground_of}
-use Rattle.load.specs.Files.{lines_at}
-use Rattle.load.specs.Judged.{Taken, texts_of}
-use Rattle.load.proofs.Feeds.{walked_none, walked_more, walked_all}
-use Rattle.load.proofs.Takings.{put_to, follows_so, follows_not, stands_so, taken_more}
+use Rattle.std.proofs.lemmas.Result.{err_from_is_err_and}
+use Rattle.sheet.proofs.Grounds.{begun_empty}
+use Rattle.load.specs.LinesLeft.{lines_left}
+use Rattle.load.specs.Judged.{LinesStamped}
+use Rattle.load.specs.declared.refusal.LoadRefusal.TheVariants.{Untaken}
+use Rattle.load.proofs.Takings.{put_to, follows_so, follows_not, stands_so, taken_more, ok_before, err_before}
 use Rattle.load.proofs.stamps.stamp_lines.Goals as goal
 
 pub loop-line-init : goal.loop-line-init
 loop-line-init g c =
-    let b = subst (Begins (ground_of g.K.Kind.text c.args.sheet.now)) c.requires.empty c.requires.begun in
-    (refl, refl, ([], walked_none c.args.body.now c.args.from, record { named = tt; begun = b }, c.requires.empty, refl), omega arith)
+    let s = c.args.sheet.now in
+    let b = begun_empty s.plan.now (map g.K.Kind.text s.names.now) in
+    (refl, refl, ([], sym (ap lines_left c.into_iter-line-iterator.ensures.into_iter_gives ∙ c.new-line-items.ensures), record { named = tt; begun = b }, c.requires.empty, refl))
 
 pub loop-line-preserved : goal.loop-line-preserved
 loop-line-preserved g c =
     let i = c.loop-line.invariant in
-    let n = c.in-Some.ensures in
-    let e = c.in-Ok.ensures in
     let u = c.in-Some.line.text.now in
-    let at = c.loop-line.at in
+    let at = c.in-Some.line.at in
     let done = i.2.0 in
-    let is = c.in-Some-of_text.ensures in
-    let known : g.K.Kind.has u ≡ true = subst (λ t. g.K.Kind.has t ≡ true) is (g.met.K.Kind.named c.in-Some-of_text.name) in
-    let p = put_to g.K.Kind.text c.loop-line.sheet c.args.sheet.now c.in-Some-of_text.name u _ _ _ _ done i.0 i.1 c.loop-line.auto.numbers c.loop-line.auto.amounts c.requires.enough i.2.3 is in (
-      e.plan ∙ i.0,
-      e.names ∙ i.1,
+    let is = subst (λ o. MatchOption o (g.K.Kind.has u ≡ false) (λ x. g.K.Kind.text x ≡ u)) c.in_ok-name.ensures.ok_part c.of_text.ensures in
+    let known : g.K.Kind.has u ≡ true = subst (λ t. g.K.Kind.has t ≡ true) is (g.met.K.Kind.named c.in_ok-name.name) in
+    let p = put_to g.K.Kind.text c.loop-line.sheet c.args.sheet.now c.in_ok-name.name u _ _ _ _ done i.0 i.1 c.loop-line.auto.numbers c.loop-line.auto.amounts c.requires.enough i.2.3 is in
+    let a = rw (ok_before _ c.stamp.result c.map_err.result c.in_ok-map_err.field-0 c.map_err.ensures.cases c.in_ok-map_err.was) at c.stamp.ensures.answer in (
+      c.stamp.ensures.plan ∙ i.0,
+      c.stamp.ensures.names ∙ i.1,
       (
         done ++ ((at, u) ∷ []),
-        walked_more c.args.body.now c.args.from done at c.in-Some.line.next u n.1 n.4 i.2.1,
-        taken_more g.K.Kind.has _ done at u i.2.2 known (follows_so _ _ _ _ _ _ done p e.answer),
-        stands_so _ _ _ _ _ _ _ done at p e.answer e.after,
+        i.2.1 ∙ (ap (λ r. done ++ r) c.in-Some.ensures.steps ∙ sym (append_assoc done ((at, u) ∷ []) (lines_left c.next.new.self))),
+        taken_more g.K.Kind.has _ done at u i.2.2 known (follows_so _ _ _ _ _ _ done p a),
+        stands_so _ _ _ _ _ _ _ done at p a c.stamp.ensures.after,
         omega (arith, i.2.4, length_push done (at, u)),
       ),
-      omega (arith, n.2, i.3),
     )
 
-pub overflow_add-count : goal.overflow_add-count
-overflow_add-count g c =
-    let n = c.in-Some.ensures in
-    omega (arith, n.2, n.3, c.loop-line.invariant.3)
-
-pub returns-in-Err : goal.returns-in-Err
-returns-in-Err g c =
+pub returns-in_err-map_err-clause-answer : goal.returns-in_err-map_err-clause-answer
+returns-in_err-map_err-clause-answer g c =
     let i = c.loop-line.invariant in
-    let n = c.in-Some.ensures in
-    let e = c.in-Err.ensures in
     let u = c.in-Some.line.text.now in
-    let at = c.loop-line.at in
+    let at = c.in-Some.line.at in
     let done = i.2.0 in
-    let is = c.in-Some-of_text.ensures in
-    let known : g.K.Kind.has u ≡ true = subst (λ t. g.K.Kind.has t ≡ true) is (g.met.K.Kind.named c.in-Some-of_text.name) in
-    let p = put_to g.K.Kind.text c.loop-line.sheet c.args.sheet.now c.in-Some-of_text.name u _ _ _ _ done i.0 i.1 c.loop-line.auto.numbers c.loop-line.auto.amounts c.requires.enough i.2.3 is in
-    let rest = lines_at c.in-Some.line.next (drop c.in-Some.line.next c.args.body.now) in
-    record {
-      plan = e.plan ∙ i.0;
-      names = e.names ∙ i.1;
-      answer = (done, (at, u), record { after = rest; split = i.2.1.lines ∙ ap (λ r. done ++ r) n.4; taken = i.2.2 }, refl, known, follows_not _ _ _ _ _ _ done c.in-Err.field-0 p e.answer);
-    }
-
-pub returns : goal.returns
-returns g c =
-    let i = c.loop-line.invariant in
-    let all = sym (walked_all c.args.body.now c.args.from i.2.0 c.loop-line.at c.in_default.ensures i.2.1) in
-    let taken = subst (λ xs. Taken g.K.Kind.has (ground_of g.K.Kind.text c.args.sheet.now) xs) all i.2.2 in
-    record { plan = i.0; names = i.1; answer = (taken, i.2.3 ∙ ap texts_of all, i.2.4 ∙ ap length all) }
+    let is = subst (λ o. MatchOption o (g.K.Kind.has u ≡ false) (λ x. g.K.Kind.text x ≡ u)) c.in_ok-name.ensures.ok_part c.of_text.ensures in
+    let known : g.K.Kind.has u ≡ true = subst (λ t. g.K.Kind.has t ≡ true) is (g.met.K.Kind.named c.in_ok-name.name) in
+    let p = put_to g.K.Kind.text c.loop-line.sheet c.args.sheet.now c.in_ok-name.name u _ _ _ _ done i.0 i.1 c.loop-line.auto.numbers c.loop-line.auto.amounts c.requires.enough i.2.3 is in
+    let o = err_before _ c.stamp.result c.map_err.result c.in_err-map_err.field-0.0 c.map_err.ensures.cases c.in_err-map_err.was in
+    let e : c.in_err-map_err.field-0.0 ≡ Untaken at = search (rules, o) in
+    let a = rw o.1 at c.stamp.ensures.answer in
+    let r = err_from_is_err_and c.from_residual-in_err-map_err.result c.from_residual-in_err-map_err.ensures.1 in
+    subst (LinesStamped g.K.Kind.has _ _ _) (sym (r.1 ∙ ap Err (r.2 ∙ e)))
+    (done, (at, u), record { after = lines_left c.next.new.self; split = i.2.1 ∙ ap (λ r. done ++ r) c.in-Some.ensures.steps; taken = i.2.2 }, refl, known, follows_not _ _ _ _ _ _ done o.0 p a)

@@ -1,24 +1,30 @@
-use Rattle.std.proofs.Common.{◌≡◌, ℕ, inl, inr, arith}
-use Rattle.load.proofs.Endings.{ends_from, long_enough, last_trailer}
+use Rattle.std.proofs.Common.{Err, MatchOption, sym, ap, ◌∙◌, subst, arith}
+use Rattle.std.specs.Option.{ok_or}
+use Rattle.std.proofs.lemmas.Result.{err_from_is_err_and}
+use Rattle.text.specs.Bools.{clash}
+use Rattle.load.specs.Files.{Trailer, Framed}
+use Rattle.load.specs.declared.trailer.Frame.{Frame}
+use Rattle.load.specs.declared.trailer.FileRefusal.TheVariants.{Malformed}
+use Rattle.load.proofs.Endings.{last_bytes, ends_from, last_trailer}
 use Rattle.load.proofs.trailer.frame_of.Goals as goal
 
-pub returns-then-len-lt-TRAILER : goal.returns-then-len-lt-TRAILER
-returns-then-len-lt-TRAILER c t e =
-    elim c.then-len-lt-TRAILER.either [
-      | inl short ↦ omega (arith, short, long_enough c.args.file.now t e)
-      | inr long ↦ omega (arith, long.1, e.short)
-    ]
-
-pub returns-in_default : goal.returns-in_default
-returns-in_default c t e = c.in_default.ensures t (last_trailer c.args.file.now t e)
+pub returns-in_err-frame : goal.returns-in_err-frame
+returns-in_err-frame c =
+    let file = c.args.file.now in
+    let tail = last_bytes file in
+    let p = err_from_is_err_and c.from_residual.result c.from_residual.ensures.1 in
+    let none = subst (λ o. MatchOption o ((t : Frame) → Trailer tail t → ⊥) (λ t. Trailer tail t)) c.in_err-frame.ensures.ok_part c.trailer_of.ensures in
+    let e = c.in_err-frame.ensures.value ∙ ap (λ o. ok_or o Malformed) c.in_err-frame.ensures.ok_part in
+    subst (Framed file) (sym (p.1 ∙ (ap Err p.2 ∙ e))) (λ t d. none t (last_trailer file t d))
 
 pub returns-then-fits : goal.returns-then-fits
 returns-then-fits c =
-    (ends_from c.args.file.now c.in-Some.frame (omega arith) c.in-Some.ensures, c.fits.ensures.0 c.if-fits.true)
+    let tail = last_bytes c.args.file.now in
+    let t = subst (λ o. MatchOption o ((t : Frame) → Trailer tail t → ⊥) (λ t. Trailer tail t)) c.in_ok-frame.ensures.ok_part c.trailer_of.ensures in
+    (ends_from c.args.file.now c.in_ok-frame.frame (omega arith) t, c.fits.ensures.0 c.if-fits.true)
 
 pub returns-else-fits : goal.returns-else-fits
-returns-else-fits c = (
-  c.in-Some.frame,
-  ends_from c.args.file.now c.in-Some.frame (omega arith) c.in-Some.ensures,
-  λ f. let z : ◌≡◌ {A = ℕ} 0 1 = cc (c.fits.ensures.1 f, c.if-fits.false) in omega arith,
-)
+returns-else-fits c =
+    let tail = last_bytes c.args.file.now in
+    let t = subst (λ o. MatchOption o ((t : Frame) → Trailer tail t → ⊥) (λ t. Trailer tail t)) c.in_ok-frame.ensures.ok_part c.trailer_of.ensures in
+    (c.in_ok-frame.frame, ends_from c.args.file.now c.in_ok-frame.frame (omega arith) t, λ f. clash (c.fits.ensures.1 f) c.if-fits.false)

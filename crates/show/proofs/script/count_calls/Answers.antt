@@ -1,21 +1,40 @@
-use Rattle.std.proofs.Common.{Some, arith}
-use Rattle.show.proofs.Told.{onward, counting_more, counted}
+use Rattle.std.proofs.Common.{◌+◌, ◌≤◌, length, sym, ◌∙◌, subst, arith}
+use Rattle.show.specs.Asking.{over}
+use Rattle.show.proofs.Told.{HasLine, Counting, count_up, count_stays, counted}
 use Rattle.show.proofs.script.count_calls.Goals as goal
 
-pub loop-next-smaller : goal.loop-next-smaller
-loop-next-smaller g c =
-    let o = onward g.K.Kind.text g.K.Kind.has c.args.text.now c.loop-next.at (Some (c.in-Some.field-0-0, c.in-Some.next)) c.in-Some.ensures in
-    omega (arith, o.0, o.1)
+pub loop-line-preserved-then-is_some : goal.loop-line-preserved-then-is_some
+loop-line-preserved-then-is_some g c =
+    let i = c.loop-line.invariant in
+    let s = c.in-Some.ensures.steps in
+    let at = c.loop-line.line-iterator.at in
+    let n = c.loop-line.count in
+    let x = c.in-Some.line in
+    let t = c.args.text.now in
+    let l = subst (λ u. HasLine g.K.Kind.text g.K.Kind.has u at x.next x.text.now) i.0 s.0.1 in (
+      s.1 ∙ i.0,
+      omega (arith, i.1, s.2, l.1.1.forward, l.3),
+      subst (λ k. Counting g.K.Kind.text g.K.Kind.has t c.args.from k (n + 1)) (sym s.2)
+          (count_up g.K.Kind.text g.K.Kind.has t c.args.from at x.next n x.text.now c.call_of.result (sym c.is_some.ensures ∙ c.if-is_some.true) l c.call_of.ensures i.2),
+    )
 
-pub loop-next-preserved : goal.loop-next-preserved
-loop-next-preserved g c =
-    counting_more g.K.Kind.text g.K.Kind.has c.args.text.now c.args.from c.loop-next.at c.loop-next.count c.in-Some.next c.in-Some.field-0-0 c.in-Some.ensures c.loop-next.invariant
+pub loop-line-preserved : goal.loop-line-preserved
+loop-line-preserved g c =
+    let i = c.loop-line.invariant in
+    let s = c.in-Some.ensures.steps in
+    let at = c.loop-line.line-iterator.at in
+    let n = c.loop-line.count in
+    let x = c.in-Some.line in
+    let t = c.args.text.now in
+    let l = subst (λ u. HasLine g.K.Kind.text g.K.Kind.has u at x.next x.text.now) i.0 s.0.1 in (
+      s.1 ∙ i.0,
+      omega (arith, i.1, s.2, l.1.1.forward, l.3),
+      subst (λ k. Counting g.K.Kind.text g.K.Kind.has t c.args.from k n) (sym s.2)
+          (count_stays g.K.Kind.text g.K.Kind.has t c.args.from at x.next n x.text.now c.call_of.result (sym c.is_some.ensures ∙ c.if-is_some.false) l c.call_of.ensures i.2),
+    )
 
 pub returns : goal.returns
 returns g c =
-    counted g.K.Kind.text g.K.Kind.has c.args.text.now c.args.from c.loop-next.at c.loop-next.count c.in_default.ensures c.loop-next.invariant
-
-pub overflow_add-count : goal.overflow_add-count
-overflow_add-count g c =
-    let o = onward g.K.Kind.text g.K.Kind.has c.args.text.now c.loop-next.at (Some (c.in-Some.field-0-0, c.in-Some.next)) c.in-Some.ensures in
-    omega (arith, o.1, c.loop-next.invariant.few, c.well_formed.0)
+    let i = c.loop-line.invariant in
+    counted g.K.Kind.text g.K.Kind.has c.args.text.now c.args.from c.loop-line.line-iterator.at c.loop-line.count
+    (over (subst (λ u. length u ≤ c.loop-line.line-iterator.at) i.0 c.in-None.ensures.steps.0)) i.2

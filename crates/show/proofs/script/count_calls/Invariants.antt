@@ -1,9 +1,9 @@
-use Rattle.std.proofs.Common.{◌-◌, length}
+use Rattle.std.proofs.Common.{◌≡◌, ◌+◌, ◌≤◌}
 use Rattle.show.proofs.Told.{Counting}
 use Rattle.show.proofs.script.count_calls.Given as goal
 
-abbrev pub invariant-loop-next : goal.invariant-loop-next
-invariant-loop-next g l = Counting g.K.Kind.text g.K.Kind.has l.text l.from l.at l.count
-
-abbrev pub decreases-loop-next : goal.decreases-loop-next
-decreases-loop-next g l = length l.text - l.at
+abbrev pub invariant-loop-line : goal.invariant-loop-line
+invariant-loop-line g l =
+    (l.line-iterator.text.now ≡ l.text)
+    × (l.count + l.from ≤ l.line-iterator.at)
+    × Counting g.K.Kind.text g.K.Kind.has l.text l.from l.line-iterator.at l.count
