@@ -1,4 +1,4 @@
-ghost use Rattle.std.specs.Prelude.{◌≡◌, min, MatchResult};
+ghost use Rattle.std.specs.Prelude.{◌≡◌, ◌≤◌, length, min, MatchResult};
 ghost use Rattle.grammar.specs.Faults.{First};
 ghost use Rattle.reader.specs.Judged.{reach};
 ghost use Rattle.reader.specs.Judging.{Judges, Granted};
@@ -39,6 +39,7 @@ fn first_refusal<K: Kind>(text: &[u8], found: Refusal) -> Refusal
 pub fn judge<K: Kind>(reader: &mut Reader) -> Result<Branch, Refusal>
     requires { Unread reader.old }
     ensures same { reader.new.text ≡ reader.old.text }
+    ensures within { reader.new.at ≤ length reader.new.text.now }
     ensures judged { MatchResult result (λ b. Granted K.has reader.old.text.now (drafts_of reader.new) b) (λ f. Judges K.has reader.old.text.now f) }
 {
     let plan = reader

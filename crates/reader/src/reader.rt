@@ -34,7 +34,6 @@ pub struct Reader<'a> {
     pub at: usize,
     pub drafts: ArrayVec<Draft, LEAVES>,
     pub brackets: usize,
-    ghost within: { at ≤ length text.now },
     ghost few: { array_vec_len drafts ≤ 128 },
 }
 
@@ -71,7 +70,8 @@ impl Reader<'_> {
     // kept: `Steady` relates a reader before and after a step, so it can be no ghost field
     // A leaf; no bracket begins at the place.
     fn read_leaf(&mut self) -> Result<Branch, Refusal>
-        requires { sign_byte (next (spot self.old)) ≡ false }
+        requires within { self.old.at ≤ length self.old.text.now }
+        requires item { sign_byte (next (spot self.old)) ≡ false }
         ensures steady { Steady self.old self.new }
         ensures read { (room : ℕ) (fs : List Frame) → Here (spot self.old) fs fresh → Item room fs self.old self.new result }
     {
@@ -115,6 +115,7 @@ impl Reader<'_> {
     // An item: a leaf or a bracket, of which `room` may stand one within the other.
     #[cycle(reading)]
     fn read_item(&mut self, room: u8) -> Result<Branch, Refusal>
+        requires within { self.old.at ≤ length self.old.text.now }
         ensures steady { Steady self.old self.new }
         ensures read { (fs : List Frame) → Here (spot self.old) fs fresh → length fs + room ≡ 16 → Item room fs self.old self.new result }
     {
@@ -151,6 +152,7 @@ impl Reader<'_> {
     // The plans of a bracket from the one of number `count` on, and its `)`.
     #[cycle(reading)]
     fn read_plans(&mut self, room: u8, sort: Sort, count: u8) -> Result<Branch, Refusal>
+        requires within { self.old.at ≤ length self.old.text.now }
         requires some { 1 ≤ count }
         requires below { count ≤ top (sort_of sort) }
         ensures steady { Steady self.old self.new }
@@ -172,6 +174,7 @@ impl Reader<'_> {
     // A plan: items with `.` between them.
     #[cycle(reading)]
     fn read_plan(&mut self, room: u8) -> Result<Branch, Refusal>
+        requires within { self.old.at ≤ length self.old.text.now }
         ensures steady { Steady self.old self.new }
         ensures read { (fs : List Frame) → Here (spot self.old) fs fresh → length fs + room ≡ 16 → Plan room fs self.old self.new result }
     {
@@ -188,6 +191,7 @@ impl Reader<'_> {
     pub fn read(&mut self) -> Result<Branch, Refusal>
         requires { Unread self.old }
         ensures same { self.new.text ≡ self.old.text }
+        ensures within { self.new.at ≤ length self.new.text.now }
         ensures read { MatchResult result (λ b. ReadWhole self.old.text.now (drafts_of self.new) b) (λ f. First any self.old.text.now f) }
     {
         let plan = self.read_plan(DEPTH)?;

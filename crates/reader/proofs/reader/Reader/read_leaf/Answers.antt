@@ -14,7 +14,7 @@ returns-in_err-end-clause-read c room fs h =
     let o = c.in_err-end.ensures in
     let d = rw o.ok_part at c.name_at.ensures in
     rw (p.1, p.2, err_of_none o.value o.ok_part)
-    (no_item h (d (fresh_no_number c.args.self.now.text.now c.args.self.now.at fs c.args.self.now.within h.state)) (sym c.if-stands.ensures.value) c.requires)
+    (no_item h (d (fresh_no_number c.args.self.now.text.now c.args.self.now.at fs c.requires.within h.state)) (sym c.if-stands.ensures.value) c.requires.item)
 
 pub returns-then-is_full-clause-read : goal.returns-then-is_full-clause-read
 returns-then-is_full-clause-read c room fs h =
