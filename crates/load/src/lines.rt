@@ -4,8 +4,6 @@ ghost use Rattle.text.specs.Bytes.{Longest};
 ghost use Rattle.load.specs.Files.{no_feed, NextLine, Counts, LinesTold, lines_at};
 ghost use Rattle.load.specs.LinesLeft.{lines_left};
 
-use text::run_end;
-
 /// A line of a load file.
 #[derive(Clone, Copy, Debug, PartialEq, Eq)]
 pub struct Line<'a> {
@@ -17,13 +15,17 @@ pub struct Line<'a> {
     pub next: usize,
 }
 
-// kept: one call, for what a load file's definition says of a line's end; that of call lines has a definition of its own
 // The place of the first line feed from a place on, or the length where there is none.
 fn feed_from(body: &[u8], at: usize) -> usize
     requires { at ≤ length body.now }
     ensures { Longest no_feed body.now at result }
 {
-    run_end(body, at, |b| b != b'\n')
+    // kept: `run_end` of `text` takes a closure, so it has a precondition, which a public function of `text` is not to have
+    let mut end = at;
+    while end < body.len() && body[end] != b'\n' {
+        end += 1;
+    }
+    end
 }
 
 /// The line of a file's body at a place, if a line feed follows there.

@@ -4,14 +4,18 @@ ghost use Rattle.text.specs.Bytes.{Longest};
 ghost use Rattle.show.specs.Lines.{in_line, LineAt};
 
 use load::Line;
-use text::run_end;
 
 // Where the line from a place on ends: at a line feed, or with the text.
 fn line_end(text: &[u8], from: usize) -> usize
     requires { from ≤ length text.now }
     ensures { Longest in_line text.now from result }
 {
-    run_end(text, from, |b| b != b'\n')
+    // kept: as at `feed_from` of the crate load
+    let mut end = from;
+    while end < text.len() && text[end] != b'\n' {
+        end += 1;
+    }
+    end
 }
 
 /// The line at a place of a text, unless the text ends there. The last line needs no line feed.
