@@ -3,10 +3,10 @@
 #![tactic(auto)]
 
 use plan::{Plan, RowMove, parse};
-use show::{Lines, names_of};
+use show::Lines;
 use std::io;
 use std::io::Read;
-use text::Word;
+use text::{Kind, Word};
 
 // A number for a row: its columns as digits.
 fn row_sum(row: &[u16]) -> u64 {
@@ -47,8 +47,12 @@ fn show(rt: &HostRuntime, plan: &Plan, buffer: &mut [u16]) -> io::Result<()> {
 }
 
 fn answer(rt: &HostRuntime, line: &[u8], buffer: &mut [u16]) -> io::Result<()> {
-    let mut names = names_of::<Word>(rt.alloc(), b"a")?;
-    match parse(rt.alloc(), line, names.as_mut_slice()) {
+    // kept: an array needs no heap, which each line would ask for anew
+    let Some(name) = Word::of_text(b"a") else {
+        return Ok(());
+    };
+    let mut names = [name; 128];
+    match parse(rt.alloc(), line, &mut names) {
         Ok(plan) => show(rt, &plan, buffer),
         Err(_) => println!(rt; "refused"),
     }

@@ -3,10 +3,10 @@
 #![tactic(auto)]
 
 use plan::{Item, Leaf, Line, Plan, Sort, parse};
-use show::{names_of, print_name, show_counts, show_error};
+use show::{print_name, show_counts, show_error};
 use std::io;
 use std::io::{Read, Write};
-use text::{Part, Word, parts};
+use text::{Kind, Part, Word, parts};
 
 // One line for a part: its place, what it is, and its bytes.
 fn show_part(rt: &HostRuntime, part: &Part) -> io::Result<()> {
@@ -22,7 +22,16 @@ fn show_part(rt: &HostRuntime, part: &Part) -> io::Result<()> {
     }
 }
 
+// A run of up to so many bytes is printed with its line in one write.
+const SHORT: usize = 256;
+
+// kept: a short run takes one write, with its line; a longer one is not copied, as `println!` would
 fn show_run(rt: &HostRuntime, at: usize, what: &str, run: &[u8]) -> io::Result<()> {
+    if run.len() <= SHORT {
+        if let Ok(text) = std::str::from_utf8(run) {
+            return println!(rt; "{at} {what} {text}");
+        }
+    }
     print!(rt; "{at} {what} ")?;
     rt.stdout().write_all(run)?;
     println!(rt; "")
@@ -94,9 +103,13 @@ fn show_plan(rt: &HostRuntime, plan: &Plan, names: &[Word]) -> io::Result<()> {
 }
 
 fn read(rt: &HostRuntime, text: &[u8]) -> io::Result<()> {
-    let mut names = names_of(rt.alloc(), b"a")?;
-    match parse(rt.alloc(), text, names.as_mut_slice()) {
-        Ok(plan) => show_plan(rt, &plan, names.as_slice()),
+    // kept: an array needs no heap, so what is answered where there is none is what `parse` says
+    let Some(name) = Word::of_text(b"a") else {
+        return Ok(());
+    };
+    let mut names = [name; 128];
+    match parse(rt.alloc(), text, &mut names) {
+        Ok(plan) => show_plan(rt, &plan, &names),
         Err(error) => show_error(rt, error),
     }
 }

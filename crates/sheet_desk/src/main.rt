@@ -2,10 +2,10 @@
 //! counts, and each call with its answer.
 #![tactic(auto)]
 
-use show::{Buffers, line_at, names_of, run};
+use show::{Buffers, line_at, run};
 use std::io;
 use std::io::Read;
-use text::Word;
+use text::{Kind, Word};
 
 const USAGE: &str =
     "sheet_desk: no input; the first line is a plan's text, and each further line one of: stamp NAME, strike, next, distance, amount, reading";
@@ -17,14 +17,11 @@ fn main(rt: HostRuntime) -> io::Result<()> {
     let Some(plan) = line_at(text, 0) else {
         return println!(rt; "{USAGE}");
     };
-    let mut names = names_of::<Word>(rt.alloc(), b"a")?;
+    // kept: an array needs no heap
+    let Some(name) = Word::of_text(b"a") else {
+        return Ok(());
+    };
+    let mut names = [name; 128];
     let mut buffers = Buffers::new(rt.alloc())?;
-    run(
-        &rt,
-        plan.text,
-        text,
-        plan.next,
-        names.as_mut_slice(),
-        &mut buffers,
-    )
+    run(&rt, plan.text, text, plan.next, &mut names, &mut buffers)
 }

@@ -28,7 +28,7 @@ fn print_call<K: Kind>(rt: &HostRuntime, call: &Call<K>) -> io::Result<()> {
     }
 }
 
-// Prints what was found, or why the call was refused.
+// Prints the rest of the line: what was found, or why the call was refused. What is short is one write, with its line feed.
 fn show_result<T, F: FnOnce(T) -> io::Result<()>>(
     rt: &HostRuntime,
     res: Result<T, Refusal>,
@@ -37,13 +37,12 @@ fn show_result<T, F: FnOnce(T) -> io::Result<()>>(
     requires { ForOk res (F.pre show) }
 {
     match res {
-        Ok(found) => show(found)?,
+        Ok(found) => show(found),
         Err(refusal) => {
             let (number, length) = refusal.code();
-            print!(rt; " refused {number} {length}")?;
+            println!(rt; " refused {number} {length}")
         }
     }
-    println!(rt; "")
 }
 
 // The texts of the names of these numbers.
@@ -54,7 +53,7 @@ fn print_names<K: Kind>(rt: &HostRuntime, names: &[K], list: &[u16]) -> io::Resu
             print_name(rt, name)?;
         }
     }
-    Ok(())
+    println!(rt; "")
 }
 
 fn print_amount(rt: &HostRuntime, amount: &Pair<Span, Bays>) -> io::Result<()> {
@@ -64,14 +63,14 @@ fn print_amount(rt: &HostRuntime, amount: &Pair<Span, Bays>) -> io::Result<()> {
     for bay in (0..64u8).filter(|bay| amount.second.holds(*bay)) {
         print!(rt; " {bay}")?;
     }
-    Ok(())
+    println!(rt; "")
 }
 
 fn print_leaves(rt: &HostRuntime, leaves: &[u16]) -> io::Result<()> {
     for leaf in leaves {
         print!(rt; " {leaf}")?;
     }
-    Ok(())
+    println!(rt; "")
 }
 
 /// Prints a call and its answer in one line.
@@ -83,13 +82,17 @@ pub fn show_turn<K: Kind>(
     print_call(rt, &turn.call)?;
     match turn.answer {
         Answer::Opened => println!(rt; ""),
-        Answer::Stamped(result) => show_result(rt, result, |()| print!(rt; " taken")),
-        Answer::Struck(result) => show_result(rt, result, |()| print!(rt; " struck")),
+        Answer::Stamped(result) => show_result(rt, result, |()| println!(rt; " taken")),
+        Answer::Struck(result) => show_result(rt, result, |()| println!(rt; " struck")),
         Answer::Listed(result) => {
             show_result(rt, result, |listing| print_names(rt, names, listing.list()))
         }
         Answer::Measured(result) => {
-            show_result(rt, result, |(fewest, most)| print!(rt; " {fewest} {most}"))
+            show_result(
+                rt,
+                result,
+                |(fewest, most)| println!(rt; " {fewest} {most}"),
+            )
         }
         Answer::Weighed(result) => show_result(rt, result, |amount| print_amount(rt, &amount)),
         Answer::Read(result) => {
