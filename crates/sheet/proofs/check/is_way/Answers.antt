@@ -1,5 +1,6 @@
 use Rattle.std.proofs.Common.{◌≡◌, ◌+◌, ◌-◌, true, false, [], map, reverse, length, get_or, take, ◌∷◌, sym, ap, ◌∙◌, subst, add-one, arith}
 use lib.ListN.{length-map}
+use Rattle.std.proofs.lemmas.Grind.{common_steps}
 use Rattle.std.proofs.lemmas.List.{length_push}
 use Rattle.std.proofs.lemmas.Slice.Zip.{zip_turn}
 use Rattle.engine.specs.Finish.{HasRows}
@@ -19,7 +20,7 @@ returns-then-not-fits_leaf g c =
     let stamps = c.args.stamps.now in
     let list = c.args.list.now in
     let i = length c.loop-stamp.yielded in
-    let turn = zip_turn stamps list c.loop-stamp.yielded c.into_iter-stamp-iterator.result c.loop-stamp.stamp-iterator c.next.new.self c.next.result (cc) (cc) c.loop-stamp.yielded_by (c.in-Some.stamp, c.in-Some.l) c.in-Some.is c.next.ensures.steps in
+    let turn = zip_turn stamps list c.loop-stamp.yielded c.into_iter-stamp-iterator.result c.loop-stamp.stamp-iterator c.next.new.self c.next.result (grind (arith, common_steps)) (grind (arith, common_steps)) c.loop-stamp.yielded_by (c.in-Some.stamp, c.in-Some.l) c.in-Some.is c.next.ensures.steps in
     let size : length (map text stamps) ≡ length stamps = length-map stamps text in
     let stamp = stamp_here text stamps i c.in-Some.stamp.now turn.0 (turn.2 c.in-Some.stamp.now) in
     let unfit : fits texts leaves (get_or (map text stamps) i []) (get_or list i 0) ≡ false = ap (λ t. fits texts leaves t (get_or list i 0)) stamp ∙ ap (fits texts leaves (text c.in-Some.stamp.now)) (sym (turn.3 0)) ∙ sym c.if-not-fits_leaf.ensures in (
@@ -37,7 +38,7 @@ loop-stamp-preserved g c =
     let stamps = c.args.stamps.now in
     let list = c.args.list.now in
     let i = length c.loop-stamp.yielded in
-    let turn = zip_turn stamps list c.loop-stamp.yielded c.into_iter-stamp-iterator.result c.loop-stamp.stamp-iterator c.next.new.self c.next.result (cc) (cc) c.loop-stamp.yielded_by (c.in-Some.stamp, c.in-Some.l) c.in-Some.is c.next.ensures.steps in
+    let turn = zip_turn stamps list c.loop-stamp.yielded c.into_iter-stamp-iterator.result c.loop-stamp.stamp-iterator c.next.new.self c.next.result (grind (arith, common_steps)) (grind (arith, common_steps)) c.loop-stamp.yielded_by (c.in-Some.stamp, c.in-Some.l) c.in-Some.is c.next.ensures.steps in
     let fit = stamped texts leaves (map text stamps) in
     let read = turn.3 0 in
     let stamp = stamp_here text stamps i c.in-Some.stamp.now turn.0 (turn.2 c.in-Some.stamp.now) in
