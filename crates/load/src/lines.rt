@@ -20,7 +20,7 @@ fn feed_from(body: &[u8], at: usize) -> usize
     requires { at ≤ length body.now }
     ensures { Longest no_feed body.now at result }
 {
-    // kept: `run_end` of `text` takes a closure, so it has a precondition, which a public function of `text` is not to have
+    // kept: a look back put this loop back in place of `run_end` of `text`, as docs/LOOK-BACK.md tells
     let mut end = at;
     while end < body.len() && body[end] != b'\n' {
         end += 1;

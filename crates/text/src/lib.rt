@@ -17,4 +17,5 @@ pub use decimal::{bay, correction, decimals_agree, number, write_number};
 pub use directory::{Entry, add, find, gather};
 pub use kind::Kind;
 pub use part::{NoSign, Part, Sign, part_at, parts};
+pub use run::run_end;
 pub use word::Word;

@@ -9,3 +9,5 @@ mod directories;
 mod lexing;
 #[cfg(test)]
 mod names;
+#[cfg(test)]
+mod runs;
