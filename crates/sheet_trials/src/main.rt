@@ -9,6 +9,9 @@ use std::io;
 use std::io::Read;
 use text::{Badge, Kind, Word};
 
+#[cfg(test)]
+mod rooms;
+
 // Where a block ends: at a blank line, or with the text.
 fn block_end(text: &[u8], from: usize) -> usize
     requires { from ≤ length text.now + 1 }

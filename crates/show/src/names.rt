@@ -13,12 +13,13 @@ const ROOM: usize = 128;
 pub fn names_of<K: Kind>(heap: Global, filler: &[u8]) -> Result<Vec<K>, AllocError>
     ensures { IfOk result (λ names. FilledWith K.text K.has filler.now names.items) }
 {
+    let Some(name) = K::of_text(filler) else {
+        return Ok(Vec::new(heap));
+    };
     let mut names = Vec::with_capacity(heap, ROOM)?;
-    if let Some(name) = K::of_text(filler) {
-        // kept: `vec!` makes clones, and nothing says that a clone of a kind's name has the same text
-        for _ in 0..ROOM {
-            names.push(name)?;
-        }
+    // kept: `vec!` makes clones, and nothing says that a clone of a kind's name has the same text
+    for _ in 0..ROOM {
+        names.push(name)?;
     }
     Ok(names)
 }
